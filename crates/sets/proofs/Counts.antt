@@ -8,7 +8,7 @@ use lib.Dec.{eqb}
 use lib.Count.{ones, ones-step, ones-le}
 use lib.Pow.{pow-add}
 use Rattle.std.proofs.shelf.Bits.{shr-shr}
-use Rattle.std.proofs.shelf.Tests.{cases-order, cases-bool, true≢false}
+use Rattle.std.proofs.shelf.Tests.{cases-order, cases-lt, true≢false}
 use Rattle.std.proofs.shelf.Ways.{tells}
 use Rattle.sets.specs.Sets.{bit, count}
 
@@ -55,8 +55,10 @@ count-zero (suc n) p e k h = ⊎-elim (λ same. ap p same ∙ last) (⊎-elim (�
     go : (a : Bool) (m : ℕ) → cond a 1 0 + m ≡ 0 → (a ≡ false) × (m ≡ 0)
     go true m z = absurd (omega arith)
     go false m z = (refl, omega arith)
+
     last : p n ≡ false
     last = go (p n) (count n p) e .0
+
     rest : count n p ≡ 0
     rest = go (p n) (count n p) e .1
 
@@ -73,6 +75,7 @@ someone (suc n) p q h = go (p n) (q n) refl refl h (λ l. wider (someone n p q l
   where
     wider : (k : ℕ) × (k < n) × (p k ≡ true) × (q k ≡ false) → (k : ℕ) × (k < suc n) × (p k ≡ true) × (q k ≡ false)
     wider w = (w .0, omega arith, w .2, w .3)
+
     go : (a b : Bool) → p n ≡ a → q n ≡ b → cond b 1 0 + count n q < cond a 1 0 + count n p
         → (count n q < count n p → (k : ℕ) × (k < suc n) × (p k ≡ true) × (q k ≡ false)) → (k : ℕ) × (k < suc n) × (p k ≡ true) × (q k ≡ false)
     go true false e f l rest = (n, omega arith, e, f)
@@ -103,3 +106,18 @@ count-ones (suc w) m h =
     let g : m < 2 ^ (1 + w) = rw f h in
     ones-step m ∙ ap (λ n. m % 2 + n) (count-ones w (m / 2) (omega arith) ∙ count-same w (bit (m / 2)) (λ k. bit m (suc k)) (λ k _. shifted m k))
     ∙ ap (λ n. n + count w (λ k. bit m (suc k))) (first-bit m) ∙ sym (count-front w (bit m))
+
+pub count-all : (n : ℕ) → count n (λ k. true) ≡ n
+unfolding count
+count-all zero = refl
+count-all (suc n) = omega (arith, count-all n)
+
+-- a longer range counts no less
+pub count-wider : (m n : ℕ) (p : ℕ → Bool) → m ≤ n → count m p ≤ count n p
+unfolding count
+count-wider m zero p h = let e : m ≡ 0 = omega arith in rw e (omega arith)
+count-wider m (suc n) p h = ⊎-elim (λ l. step (p n) (count-wider m n p (omega arith))) (λ g. let e : m ≡ suc n = omega arith in rw e (omega arith)) (cases-lt m (suc n))
+  where
+    step : (b : Bool) → count m p ≤ count n p → count m p ≤ cond b 1 0 + count n p
+    step true le = omega arith
+    step false le = omega arith

@@ -4,12 +4,12 @@ use mathlib.Core.Bool.{Bool, true, false, not, _&&_, _||_}
 use mathlib.Core.Logic.{_⊎_, inl, inr, ⊎-elim}
 use Prim.Native.Nat.{ℕ, zero, suc, _+_, _-_, _*_, _/_, _%_, _^_, _≤_, _<_, min, max}
 use native.Mathlib.Omega.{arith}
-use native.Mathlib.Nat.{div-eq-of-lt, add-comm}
+use native.Mathlib.Nat.{div-eq-of-lt, add-mul}
 use lib.Dec.{eqb, ltb}
 use lib.Bits.{bitAnd, bitOr, bitXor, and-step, or-step, xor-step, and-shr, or-shr, xor-shr, differ}
 use lib.Pow.{pow-mono}
-use Rattle.std.proofs.shelf.Bits.{pow-add, pow-below, pow-pos, shl-shr}
-use Rattle.std.proofs.shelf.Tests.{cases-order, eq-eqb, ne-eqb, le-ltb, and-left}
+use Rattle.std.proofs.shelf.Bits.{pow-add, pow-below, pow-pos, shl-shr, shr-high}
+use Rattle.std.proofs.shelf.Tests.{cases-order, cases-lt, eq-eqb, ne-eqb, le-ltb, lt-ltb}
 use Rattle.std.proofs.shelf.Ways.{tells}
 use Rattle.sets.specs.Sets.{bit}
 
@@ -90,11 +90,41 @@ bit-one q k = ⊎-elim same (⊎-elim below above) (cases-order k q)
   where
     same : k ≡ q → eqb (2 ^ q / 2 ^ k % 2) 1 ≡ eqb k q
     same h = let e : q ≡ 0 + k = omega arith in ap (λ n. eqb (2 ^ n / 2 ^ k % 2) 1) e ∙ ap (λ n. eqb (n % 2) 1) (shift-down 0 k) ∙ sym (eq-eqb k q h)
+
     even : (j : ℕ) → 2 ^ (j + 1) % 2 ≡ 0
     even j = omega (arith, pow-add 2 j 1)
+
     below : k < q → eqb (2 ^ q / 2 ^ k % 2) 1 ≡ eqb k q
     below h =
         let e : q ≡ (q - k - 1 + 1) + k = omega arith in
         ap (λ n. eqb (2 ^ n / 2 ^ k % 2) 1) e ∙ ap (λ n. eqb (n % 2) 1) (shift-down (q - k - 1 + 1) k) ∙ ap (λ n. eqb n 1) (even (q - k - 1)) ∙ sym (ne-eqb k q (λ x. omega arith))
+
     above : q < k → eqb (2 ^ q / 2 ^ k % 2) 1 ≡ eqb k q
     above h = ap (λ n. eqb (n % 2) 1) (div-eq-of-lt (pow-below q k h)) ∙ sym (ne-eqb k q (λ e. omega arith))
+
+one-less : (a b : ℕ) → 0 < a → (a - 1) * b + b ≡ a * b
+one-less a b h = let e : a - 1 + 1 ≡ a = omega arith in omega (arith, add-mul (a - 1) 1 b, ap (λ n. n * b) e)
+
+-- the number of w ones, bit by bit
+pub bit-ones : (w k : ℕ) → bit (2 ^ w - 1) k ≡ ltb k w
+unfolding bit
+bit-ones w k = ⊎-elim low-part high-part (cases-lt k w)
+  where
+    high-part : w ≤ k → eqb ((2 ^ w - 1) / 2 ^ k % 2) 1 ≡ ltb k w
+    high-part h =
+        let p : 2 ^ w ≤ 2 ^ k = pow-mono h in
+        let q : 0 < 2 ^ w = pow-pos w in
+        ap (λ n. eqb (n % 2) 1) (div-eq-of-lt {n = 2 ^ w - 1} {m = 2 ^ k} (omega arith)) ∙ sym (le-ltb k w h)
+
+    low-part : k < w → eqb ((2 ^ w - 1) / 2 ^ k % 2) 1 ≡ ltb k w
+    low-part h =
+        let j : ℕ = w - k - 1 in
+        let e : w ≡ (j + 1) + k = omega arith in
+        let split : 2 ^ w ≡ 2 ^ (j + 1) * 2 ^ k = ap (λ n. 2 ^ n) e ∙ pow-add 2 (j + 1) k in
+        let two : 2 ^ (j + 1) ≡ 2 ^ j * 2 = pow-add 2 j 1 in
+        let pj : 0 < 2 ^ j = pow-pos j in
+        let pk : 0 < 2 ^ k = pow-pos k in
+        let less : (2 ^ (j + 1) - 1) * 2 ^ k + 2 ^ k ≡ 2 ^ (j + 1) * 2 ^ k = one-less (2 ^ (j + 1)) (2 ^ k) (omega arith) in
+        let whole : 2 ^ w - 1 ≡ (2 ^ (j + 1) - 1) * 2 ^ k + (2 ^ k - 1) = omega arith in
+        ap (λ n. eqb (n / 2 ^ k % 2) 1) whole ∙ ap (λ n. eqb (n % 2) 1) (shr-high (2 ^ (j + 1) - 1) k (2 ^ k - 1) (omega arith))
+        ∙ (let odd : (2 ^ (j + 1) - 1) % 2 ≡ 1 = omega arith in ap (λ n. eqb n 1) odd) ∙ sym (lt-ltb k w h)

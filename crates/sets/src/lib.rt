@@ -18,6 +18,16 @@ impl ControllerSet {
         ControllerSet { bits: 0 }
     }
 
+    // Every controller below `n`.
+    pub fn below(n: u16) -> ControllerSet
+        ensures { λ r. ⌜ ((k : ℕ) → has r k ≡ (ltb k n && ltb k 16)) ⌝ }
+    {
+        if n >= 16 {
+            return ControllerSet { bits: 0xffff };
+        }
+        ControllerSet { bits: (1 << n) - 1 }
+    }
+
     pub fn contains(self, q: u16) -> bool
         ensures { λ r. ⌜ r ≡ has self q ⌝ }
     {

@@ -1,4 +1,4 @@
--- The number and the words of each fault of this layer. Assumes nothing.
+-- The layer, the number and the words of each fault of this layer. Assumes nothing.
 use Prim.Native.Nat.{ℕ}
 use mathlib.Core.List.{List}
 use lib.Chars.{codes}
@@ -17,6 +17,9 @@ layerWord ListLayer = codes "list"
 layerWord Bench = codes "bench"
 layerWord Carriage = codes "carriage"
 
+abbrev pub valueLayer : ValueFault → Layer
+valueLayer e = Value
+
 -- every number out of its range is fault 3
 abbrev pub valueNumber : ValueFault → ℕ
 valueNumber Block = 3
@@ -29,6 +32,9 @@ valueWords Block = codes "block above 63"
 valueWords Pulses = codes "pulses not 1 to 8"
 valueWords Count = codes "list count not 1 to 4"
 valueWords Mark = codes "mark above 15"
+
+abbrev pub listLayer : ListFault → Layer
+listLayer e = ListLayer
 
 abbrev pub listNumber : ListFault → ℕ
 listNumber Length = 7

@@ -1,6 +1,6 @@
 // Faults: each has a number, the layer that returns it, and its cause in words.
 ghost use Prim.Native.Nat.{ℕ};
-ghost use Rattle.values.specs.Faults.{valueNumber, valueWords, listNumber, listWords, layerWord};
+ghost use Rattle.values.specs.Faults.{layerWord, valueLayer, valueNumber, valueWords, listLayer, listNumber, listWords};
 ghost use Rattle.values.specs.declared.faults.Layer.{Layer};
 ghost use Rattle.std.specs.declared.option.Option.the-variants.{Some};
 ghost use mathlib.Core.Path.{_≡_};
@@ -66,7 +66,7 @@ pub enum ValueFault {
 pub impl Fault for ValueFault as ValueFaultNumber {
     ghost numbered = { valueNumber };
 
-    ghost layered = { λ _. Layer.Value };
+    ghost layered = { valueLayer };
 
     fn number(&self) -> u16 {
         3
@@ -109,7 +109,7 @@ pub enum ListFault {
 pub impl Fault for ListFault as ListFaultNumber {
     ghost numbered = { listNumber };
 
-    ghost layered = { λ _. Layer.List };
+    ghost layered = { listLayer };
 
     fn number(&self) -> u16 {
         match self {

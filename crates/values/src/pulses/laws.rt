@@ -13,6 +13,10 @@ pub impl Kind for PulseReport as PulseReportKind {
     }
 
     fn charged_block(&self) -> Option<u16> {
-        if self.pulses == 8 { Some(self.block()) } else { None }
+        if self.pulses == 8 {
+            Some(self.block())
+        } else {
+            None
+        }
     }
 }

@@ -1,0 +1,4 @@
+pub mod Faults
+pub mod Groups
+pub mod Triples
+pub mod Model
