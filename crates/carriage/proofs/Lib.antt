@@ -1,2 +1,3 @@
 pub mod Marked
 pub mod Held
+pub mod Slots

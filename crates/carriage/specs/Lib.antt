@@ -2,3 +2,4 @@ pub mod Faults
 pub mod Groups
 pub mod Triples
 pub mod Model
+pub mod Runs
