@@ -1,0 +1,7 @@
+pub mod Faults
+pub mod Views
+pub mod Extraction
+pub mod Refusals
+pub mod Steps
+pub mod Runs
+pub mod Law
