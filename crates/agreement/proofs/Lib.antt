@@ -1,0 +1,3 @@
+pub mod Vouching
+pub mod Offering
+pub mod Keeping
