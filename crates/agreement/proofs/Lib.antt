@@ -1,3 +1,6 @@
 pub mod Vouching
 pub mod Offering
 pub mod Keeping
+pub mod Verdicts
+pub mod Beginning
+pub mod Agreement
