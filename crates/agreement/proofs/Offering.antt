@@ -66,67 +66,68 @@ among-one : (b : Bool) (x y : Triple) → among (cond b (x ∷ []) []) y ≡ tru
 among-one true x y e = (refl, same-is x y (⊎-elim (λ a. a) (λ f. absurd (both-ways false refl f)) (or-cases _ _ e)))
 among-one false x y e = absurd (both-ways false refl e)
 
-module _ (m : Model) (s : ℕ) (before : ℕ → ℕ → Bool) (i : ℕ) where
+module _ (test : ℕ → ℕ → Bool) (i : ℕ) where
   -- what stands on the list of new offers
   pub record New (len n : ℕ) (y : Triple) : Type 0 where
     pub origin : y .origin < n
     pub place : y .place < len
-    pub round : y .round ≡ i + 1
-    pub fresh : isNew m s before i (y .origin) (y .place) ≡ true
+    pub round : y .round ≡ i
+    pub fresh : test (y .origin) (y .place) ≡ true
 
-  among-places : (q len : ℕ) (y : Triple) → among (placeOffers m s before i q len) y ≡ true → (y .origin ≡ q) × New len (suc q) y
+  among-places : (q len : ℕ) (y : Triple) → among (placeOffers test i q len) y ≡ true → New len (suc q) y
   unfolding placeOffers
   among-places q zero y e = absurd (both-ways false refl e)
   among-places q (suc v) y e =
-      ⊎-elim (λ a. wider (among-places q v y a)) (λ b. last (among-one (isNew m s before i q v) (triple q v (i + 1)) y b)) (or-cases _ _ (sym (among-join (placeOffers m s before i q v) _ y) ∙ e))
+      ⊎-elim (λ a. wider (among-places q v y a)) (λ b. last (among-one (test q v) (triple q v i) y b)) (or-cases _ _ (sym (among-join (placeOffers test i q v) _ y) ∙ e))
     where
-      wider : (y .origin ≡ q) × New v (suc q) y → (y .origin ≡ q) × New (suc v) (suc q) y
-      wider w = (w .0, record { origin = w .1 .origin; place = omega (arith, w .1 .place); round = w .1 .round; fresh = w .1 .fresh })
+      wider : New v (suc q) y → New (suc v) (suc q) y
+      wider w = record { origin = w .origin; place = omega (arith, w .place); round = w .round; fresh = w .fresh }
 
-      last : (isNew m s before i q v ≡ true) × (triple q v (i + 1) ≡ y) → (y .origin ≡ q) × New (suc v) (suc q) y
-      last w = subst (λ z. (z .origin ≡ q) × New (suc v) (suc q) z) (w .1) (refl, record { origin = omega arith; place = omega arith; round = refl; fresh = w .0 })
+      last : (test q v ≡ true) × (triple q v i ≡ y) → New (suc v) (suc q) y
+      last w = subst (New (suc v) (suc q)) (w .1) (record { origin = omega arith; place = omega arith; round = refl; fresh = w .0 })
 
-  among-group : (len n : ℕ) (y : Triple) → among (groupOffers m s before i len n) y ≡ true → New len n y
+  among-group : (len n : ℕ) (y : Triple) → among (groupOffers test i len n) y ≡ true → New len n y
   unfolding groupOffers
   among-group len zero y e = absurd (both-ways false refl e)
   among-group len (suc q) y e =
-      ⊎-elim (λ a. wider (among-group len q y a)) (λ b. among-places q len y b .1) (or-cases _ _ (sym (among-join (groupOffers m s before i len q) _ y) ∙ e))
+      ⊎-elim (λ a. wider (among-group len q y a)) (λ b. among-places q len y b) (or-cases _ _ (sym (among-join (groupOffers test i len q) _ y) ∙ e))
     where
       wider : New len q y → New len (suc q) y
       wider w = record { origin = omega (arith, w .origin); place = w .place; round = w .round; fresh = w .fresh }
 
-  places-have : (q len v : ℕ) → v < len → isNew m s before i q v ≡ true → among (placeOffers m s before i q len) (triple q v (i + 1)) ≡ true
+  places-have : (q len v : ℕ) → v < len → test q v ≡ true → among (placeOffers test i q len) (triple q v i) ≡ true
   unfolding placeOffers
   places-have q zero v l e = absurd (omega arith)
   places-have q (suc u) v l e =
-      among-join (placeOffers m s before i q u) _ (triple q v (i + 1)) ∙ ⊎-elim (λ same. or-right _ _ (here same)) (λ other. or-left _ _ (places-have q u v (omega arith) e)) (cases-eq v u)
+      among-join (placeOffers test i q u) _ (triple q v i) ∙ ⊎-elim (λ same. or-right _ _ (here same)) (λ other. or-left _ _ (places-have q u v (omega arith) e)) (cases-eq v u)
     where
-      here : v ≡ u → among (cond (isNew m s before i q u) (triple q u (i + 1) ∷ []) []) (triple q v (i + 1)) ≡ true
+      here : v ≡ u → among (cond (test q u) (triple q u i ∷ []) []) (triple q v i) ≡ true
       here same =
-          ap (λ b. among (cond b (triple q u (i + 1) ∷ []) []) (triple q v (i + 1))) (ap (λ k. isNew m s before i q k) (sym same) ∙ e)
-          ∙ or-left _ _ (ap (λ k. sameTriple (triple q k (i + 1)) (triple q v (i + 1))) (sym same) ∙ same-refl (triple q v (i + 1)))
+          ap (λ b. among (cond b (triple q u i ∷ []) []) (triple q v i)) (ap (test q) (sym same) ∙ e)
+          ∙ or-left _ _ (ap (λ k. sameTriple (triple q k i) (triple q v i)) (sym same) ∙ same-refl (triple q v i))
 
-  group-has : (len n q v : ℕ) → q < n → v < len → isNew m s before i q v ≡ true → among (groupOffers m s before i len n) (triple q v (i + 1)) ≡ true
+  group-has : (len n q v : ℕ) → q < n → v < len → test q v ≡ true → among (groupOffers test i len n) (triple q v i) ≡ true
   unfolding groupOffers
   group-has len zero q v l k e = absurd (omega arith)
   group-has len (suc p) q v l k e =
-      among-join (groupOffers m s before i len p) _ (triple q v (i + 1)) ∙ ⊎-elim (λ same. or-right _ _ (here same)) (λ other. or-left _ _ (group-has len p q v (omega arith) k e)) (cases-eq q p)
+      among-join (groupOffers test i len p) _ (triple q v i) ∙ ⊎-elim (λ same. or-right _ _ (here same)) (λ other. or-left _ _ (group-has len p q v (omega arith) k e)) (cases-eq q p)
     where
-      here : q ≡ p → among (placeOffers m s before i p len) (triple q v (i + 1)) ≡ true
-      here same = ap (λ r. among (placeOffers m s before i r len) (triple q v (i + 1))) (sym same) ∙ places-have q len v k e
+      here : q ≡ p → among (placeOffers test i p len) (triple q v i) ≡ true
+      here same = ap (λ r. among (placeOffers test i r len) (triple q v i)) (sym same) ∙ places-have q len v k e
 
 module _ (m : Model) (s : ℕ) (before : ℕ → ℕ → Bool) (k : ℕ) where
   -- what is offered after the turn of phase k: the second phase of a round that is not the last one
-  pub offers-tell : (y : Triple) → among (offersAfter m s before k) y ≡ true → (k % 2 ≡ 0) × (k / 2 ≤ m .group .t) × New m s before (k / 2) (m .len) (m .group .n) y
+  pub offers-tell : (y : Triple) → among (offersAfter m s before k) y ≡ true
+      → (k % 2 ≡ 0) × (k / 2 ≤ m .group .t) × New (isNew m s before (k / 2)) (k / 2 + 1) (m .len) (m .group .n) y
   offers-tell y e = go (eqb (k % 2) 0 && leb (k / 2) (m .group .t)) refl e
     where
-      go : (b : Bool) → (eqb (k % 2) 0 && leb (k / 2) (m .group .t)) ≡ b → among (cond b (groupOffers m s before (k / 2) (m .len) (m .group .n)) []) y ≡ true
-          → (k % 2 ≡ 0) × (k / 2 ≤ m .group .t) × New m s before (k / 2) (m .len) (m .group .n) y
-      go true f h = let a = and-parts _ _ f in (eqb-true _ _ (a .0), leb-true _ _ (a .1), among-group m s before (k / 2) (m .len) (m .group .n) y h)
+      go : (b : Bool) → (eqb (k % 2) 0 && leb (k / 2) (m .group .t)) ≡ b → among (cond b (groupOffers (isNew m s before (k / 2)) (k / 2 + 1) (m .len) (m .group .n)) []) y ≡ true
+          → (k % 2 ≡ 0) × (k / 2 ≤ m .group .t) × New (isNew m s before (k / 2)) (k / 2 + 1) (m .len) (m .group .n) y
+      go true f h = let a = and-parts _ _ f in (eqb-true _ _ (a .0), leb-true _ _ (a .1), among-group (isNew m s before (k / 2)) (k / 2 + 1) (m .len) (m .group .n) y h)
       go false f h = absurd (both-ways false refl h)
 
   pub offers-have : (q v : ℕ) → k % 2 ≡ 0 → k / 2 ≤ m .group .t → q < m .group .n → v < m .len → isNew m s before (k / 2) q v ≡ true
       → among (offersAfter m s before k) (triple q v (k / 2 + 1)) ≡ true
   offers-have q v even below l h e =
-      ap (λ b. among (cond b (groupOffers m s before (k / 2) (m .len) (m .group .n)) []) (triple q v (k / 2 + 1))) (and-from _ _ (eq-eqb _ _ even) (le-leb _ _ below))
-      ∙ group-has m s before (k / 2) (m .len) (m .group .n) q v l h e
+      ap (λ b. among (cond b (groupOffers (isNew m s before (k / 2)) (k / 2 + 1) (m .len) (m .group .n)) []) (triple q v (k / 2 + 1))) (and-from _ _ (eq-eqb _ _ even) (le-leb _ _ below))
+      ∙ group-has (isNew m s before (k / 2)) (k / 2 + 1) (m .len) (m .group .n) q v l h e

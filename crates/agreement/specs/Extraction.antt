@@ -37,28 +37,28 @@ module _ (m : Model) (q v : ℕ) where
   abbrev pub extracts : (s i : ℕ) → Bool
   extracts s i = m .accepted q (triple s v 1) && leb i (origins i)
 
+-- what q offers for a round: each place below len that passes the test, in their order
+unfoldable pub placeOffers : (test : ℕ → ℕ → Bool) (round q len : ℕ) → List Triple
+placeOffers test round q zero = []
+placeOffers test round q (suc v) = placeOffers test round q v ++ cond (test q v) (triple q v round ∷ []) []
+
+-- what the controllers below n offer, in their order
+unfoldable pub groupOffers : (test : ℕ → ℕ → Bool) (round len n : ℕ) → List Triple
+groupOffers test round len zero = []
+groupOffers test round len (suc q) = groupOffers test round len q ++ placeOffers test round q len
+
 module _ (m : Model) (s : ℕ) (before : ℕ → ℕ → Bool) where
   -- the extracted sets after the turn of phase k: only the second phase of a round adds to them
   abbrev pub setsAfter : (k q v : ℕ) → Bool
   setsAfter k q v = before q v || (eqb (k % 2) 0 && extracts m q v s (k / 2))
 
-  -- q extracts v now and had not before
+  -- q extracts v after round i and had not before
   abbrev pub isNew : (i q v : ℕ) → Bool
   isNew i q v = extracts m q v s i && not (before q v)
 
-  -- what q offers for round i + 1, of the places below len, in their order
-  unfoldable pub placeOffers : (i q len : ℕ) → List Triple
-  placeOffers i q zero = []
-  placeOffers i q (suc v) = placeOffers i q v ++ cond (isNew i q v) (triple q v (i + 1) ∷ []) []
-
-  -- what the controllers below n offer, in their order
-  unfoldable pub groupOffers : (i len n : ℕ) → List Triple
-  groupOffers i len zero = []
-  groupOffers i len (suc q) = groupOffers i len q ++ placeOffers i q len
-
-  -- the offers after the turn of phase k; there are none after the last round
+  -- the offers after the turn of phase k: all that is new, for the next round; there are none after the last round
   abbrev pub offersAfter : (k : ℕ) → List Triple
-  offersAfter k = cond (eqb (k % 2) 0 && leb (k / 2) (m .group .t)) (groupOffers (k / 2) (m .len) (m .group .n)) []
+  offersAfter k = cond (eqb (k % 2) 0 && leb (k / 2) (m .group .t)) (groupOffers (isNew (k / 2)) (k / 2 + 1) (m .len) (m .group .n)) []
 
 -- the highest number below n that passes the test
 unfoldable pub highest : ℕ → (ℕ → Bool) → ℕ
