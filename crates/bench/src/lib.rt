@@ -1,0 +1,5 @@
+// The bench: it runs shots over any carriage, which it knows by its contracts alone, and keeps every correct
+// controller's extracted set and register.
+mod moments;
+mod places;
+mod tallies;
