@@ -1,1 +1,3 @@
 pub mod Filled
+pub mod Walks
+pub mod Chains

@@ -1,5 +1,7 @@
 // The bench: it runs shots over any carriage, which it knows by its contracts alone, and keeps every correct
 // controller's extracted set and register.
 mod moments;
+mod offers;
 mod places;
+mod rounds;
 mod tallies;
