@@ -63,14 +63,28 @@ fn extracts_now<C: Carriage>(carriage: &C, sender: u16, round: u16, q: u16, v: u
 }
 
 // Whether q extracts v now and had not before.
-fn is_new<C: Carriage>(carriage: &C, sender: u16, before: &Extracted, round: u16, q: u16, v: u16) -> bool
+fn is_new<C: Carriage>(
+    carriage: &C,
+    sender: u16,
+    before: &Extracted,
+    round: u16,
+    q: u16,
+    v: u16,
+) -> bool
     ensures { λ r. ⌜ r ≡ isNew (C·Carriage .model (now (carriage .entry))) sender (inSet (now (before .entry))) round q v ⌝ }
 {
     extracts_now(carriage, sender, round, q, v) && !before.contains(q, v)
 }
 
 // Adds to `news` what q extracts now and had not before.
-fn add_new<C: Carriage>(carriage: &C, sender: u16, before: &Extracted, round: u16, q: u16, news: &mut Extracted)
+fn add_new<C: Carriage>(
+    carriage: &C,
+    sender: u16,
+    before: &Extracted,
+    round: u16,
+    q: u16,
+    news: &mut Extracted,
+)
     requires { ⌜ q < 16 ⌝ }
     ensures { λ _. ⌜ ((p v : ℕ) → inSet (now (news .exit)) p v ≡ ((eqb p q && isNew (C·Carriage .model (now (carriage .entry))) sender (inSet (now (before .entry))) round p v) || inSet (now (news .entry)) p v)) ⌝ }
 {
@@ -83,7 +97,12 @@ fn add_new<C: Carriage>(carriage: &C, sender: u16, before: &Extracted, round: u1
 }
 
 // All that controllers extract now and had not before.
-pub(crate) fn new_places<C: Carriage>(carriage: &C, sender: u16, before: &Extracted, round: u16) -> Extracted
+pub(crate) fn new_places<C: Carriage>(
+    carriage: &C,
+    sender: u16,
+    before: &Extracted,
+    round: u16,
+) -> Extracted
     ensures { λ r. ⌜ ((q v : ℕ) → inSet r q v ≡ isNew (C·Carriage .model (now (carriage .entry))) sender (inSet (now (before .entry))) round q v) ⌝ }
 {
     let mut news = Extracted::empty();

@@ -18,8 +18,8 @@ loop-v-again g c p w =
     let old = inSet (c .args .news .now) p w in
     let sofar = inSet (c .loop-v .news) p w in
     elim (c .if-is-new .came) [
-      then-is-new z ↦ ap (λ x. inSet x p w) (z .news-is) ∙ z .insert .ensures p w ∙ places-more new (c .args .q) (c .loop-v .v) p w true sofar old (sym (c .is-new .ensures) ∙ z .if-is-new .taken) (c .loop-v .inv p w)
-    | else-is-new z ↦ ap (λ x. inSet x p w) (z .news-is) ∙ places-more new (c .args .q) (c .loop-v .v) p w false sofar old (sym (c .is-new .ensures) ∙ z .if-is-new .left) (c .loop-v .inv p w)
+      | then-is-new z ↦ ap (λ x. inSet x p w) (z .news-is) ∙ z .insert .ensures p w ∙ places-more new (c .args .q) (c .loop-v .v) p w true sofar old (sym (c .is-new .ensures) ∙ z .if-is-new .taken) (c .loop-v .inv p w)
+      | else-is-new z ↦ ap (λ x. inSet x p w) (z .news-is) ∙ places-more new (c .args .q) (c .loop-v .v) p w false sofar old (sym (c .is-new .ensures) ∙ z .if-is-new .left) (c .loop-v .inv p w)
     ]
 
 pub returns : need.returns

@@ -13,10 +13,10 @@ pub loop-p-again : need.loop-p-again
 loop-p-again g c =
     let test = vouched (g .C·Carriage .model (c .args .carriage .now)) (c .args .q) (c .args .v) (c .args .rounds) in
     elim (c .if-has-vouched .came) [
-      then-has-vouched w ↦
-        (omega (arith, w .total-is), w .total-is ∙ count-then (c .loop-p .p) test (c .loop-p .total) (sym (c .has-vouched .ensures) ∙ w .if-has-vouched .taken) (c .loop-p .inv .1))
-    | else-has-vouched w ↦
-        (omega (arith, w .total-is), w .total-is ∙ count-else (c .loop-p .p) test (c .loop-p .total) (sym (c .has-vouched .ensures) ∙ w .if-has-vouched .left) (c .loop-p .inv .1))
+      | then-has-vouched w ↦
+          (omega (arith, w .total-is), w .total-is ∙ count-then (c .loop-p .p) test (c .loop-p .total) (sym (c .has-vouched .ensures) ∙ w .if-has-vouched .taken) (c .loop-p .inv .1))
+      | else-has-vouched w ↦
+          (omega (arith, w .total-is), w .total-is ∙ count-else (c .loop-p .p) test (c .loop-p .total) (sym (c .has-vouched .ensures) ∙ w .if-has-vouched .left) (c .loop-p .inv .1))
     ]
 
 pub returns : need.returns
