@@ -66,17 +66,16 @@ module _ {C K : Type 0} (account : Account C) (rules : Rules K) (v : View C) (s 
   may-begin e =
       let a = first-none _ _ e in
       let b = first-none _ _ (a .1) in
-      let c = passed _ _ _ (b .1) in
-      let d = passed _ _ _ (c .1) in
-      let f = spared _ _ _ (d .1) in
-      let h = spared _ _ _ (f .1) in
+      let c = first-none _ _ (b .1) in
+      let d = first-none _ _ (c .1) in
+      let f = passed _ _ _ (d .0) in
       record {
-        moment = passed _ _ _ (a .0) .0;
-        length = eqb-true _ _ (passed _ _ _ (mapped-none _ _ (b .0)) .0);
-        closed = ltb-true _ _ (c .0);
-        sender = ltb-true _ _ (d .0);
-        unmarked = f .0;
-        listed = h .0;
+        moment = passed _ None _ (a .0) .0;
+        length = eqb-true _ _ (passed _ None _ (mapped-none _ _ (b .0)) .0);
+        closed = ltb-true _ _ (passed _ None _ (c .0) .0);
+        sender = ltb-true _ _ (f .0);
+        unmarked = spared _ None _ (f .1) .0;
+        listed = spared _ None _ (d .1) .0;
       }
 
   -- a value that was given is on the list, and its sender is correct

@@ -16,6 +16,7 @@ use Rattle.values.specs.declared.faults.ListFault.the-variants.{Length}
 use Rattle.carriage.specs.Groups.{marked}
 use Rattle.carriage.specs.Model.{Model, isCorrect, injectFault}
 use Rattle.carriage.specs.declared.frames.Frame.{Frame}
+use Rattle.carriage.specs.declared.members.Group.{Group}
 use Rattle.carriage.specs.declared.faults.CarriageFault.the-variants.{NotCorrect}
 use Rattle.carriage.specs.declared.meaning.Carriage.{Ghosts as Account}
 use Rattle.agreement.specs.Views.{View, Rules, modelOf, momentOf, fits}
@@ -48,6 +49,17 @@ abbrev pub unlisted : {K : Type 0} → Rules K → Option K → Bool
 unlisted rules None = false
 unlisted rules (Some w) = elim (placeOf (rules .same) w (rules .values)) [ None ↦ true | Some p ↦ false ]
 
+abbrev pub valueFault : {K : Type 0} → Rules K → Option K → Option BenchFault
+valueFault rules x = cond (unlisted rules x) (Some NotListed) None
+
+-- a bench closes 999 shots
+abbrev pub shotsFault : ℕ → Option BenchFault
+shotsFault closed = cond (ltb closed 999) None (Some Shots)
+
+-- the sender is in the group, and a marked one is given no value
+abbrev pub senderFault : Group → ℕ → Bool → Option BenchFault
+senderFault g s some = cond (ltb s (g .n)) (cond (marked g s && some) (Some MarkedSender) None) (Some Sender)
+
 -- the fault, if there is one, else the value
 abbrev pub answerBy : {T : Type 0} → Option BenchFault → T → Result T BenchFault
 answerBy None x = Ok x
@@ -60,15 +72,11 @@ module _ {C : Type 0} (account : Account C) where
   -- Begin: the moment, the list's length, 999 closed shots, the sender, a marked sender's value, an unlisted value
   abbrev pub beginFault : {K : Type 0} → Rules K → View C → ℕ → Option K → Option BenchFault
   beginFault rules v s x =
-      let m = modelOf account v in
       first (momentFault v Begin)
-      (first (mapped ListCause (lengthCause m (rules .values)))
-      (cond (ltb (v .closed) 999)
-      (cond (ltb s (m .group .n))
-      (cond (marked (m .group) s && isSome x) (Some MarkedSender)
-      (cond (unlisted rules x) (Some NotListed) None))
-      (Some Sender))
-      (Some Shots)))
+      (first (mapped ListCause (lengthCause (modelOf account v) (rules .values)))
+      (first (shotsFault (v .closed))
+      (first (senderFault (modelOf account v .group) s (isSome x))
+      (valueFault rules x))))
 
   -- Inject: the moment, then the carriage's own refusal
   abbrev pub injectRefusal : View C → Frame → Option BenchFault
