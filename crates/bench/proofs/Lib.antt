@@ -1,3 +1,4 @@
 pub mod Filled
 pub mod Walks
 pub mod Chains
+pub mod Charges

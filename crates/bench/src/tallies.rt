@@ -22,7 +22,7 @@ impl Register {
     // One charge more of a block, unless its tally is 3.
     fn charge(&mut self, block: u16)
         requires { ⌜ block < 64 ⌝ }
-        ensures { λ _. ⌜ ((b : ℕ) → tallyIn (now (self .exit)) b ≡ cond (eqb b block) (raised (tallyIn (now (self .entry)) b)) (tallyIn (now (self .entry)) b)) ⌝ }
+        ensures { λ _. ⌜ ((b : ℕ) → tallyIn (now (self .exit)) b ≡ cond (eqb block b) (raised (tallyIn (now (self .entry)) b)) (tallyIn (now (self .entry)) b)) ⌝ }
     {
         let count = self.counts[block as usize];
         if count < 3 {
@@ -56,7 +56,7 @@ impl Registers {
     // Charges a block in the register of controller q.
     pub(crate) fn charge(&mut self, q: u16, block: u16)
         requires { ⌜ q < 16 ⌝ ∗ ⌜ block < 64 ⌝ }
-        ensures { λ _. ⌜ ((p b : ℕ) → tallyOf (now (self .exit)) p b ≡ cond (eqb p q && eqb b block) (raised (tallyOf (now (self .entry)) p b)) (tallyOf (now (self .entry)) p b)) ⌝ }
+        ensures { λ _. ⌜ ((p b : ℕ) → tallyOf (now (self .exit)) p b ≡ cond (eqb p q && eqb block b) (raised (tallyOf (now (self .entry)) p b)) (tallyOf (now (self .entry)) p b)) ⌝ }
     {
         self.rows[q as usize].charge(block);
     }

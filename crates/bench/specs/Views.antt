@@ -1,0 +1,8 @@
+-- The view of a bench: its carriage, and what its tables say. Assumes nothing.
+use Rattle.agreement.specs.Views.{View}
+use Rattle.bench.specs.Tables.{inSet, tallyOf}
+use Rattle.bench.specs.declared.state.Bench.{Bench}
+
+abbrev pub viewOf : {C : Type 0} → Bench C → View C
+viewOf b =
+    record { carriage = b .carriage; running = b .progress .running; sender = b .progress .sender; extracted = inSet (b .extracted); tally = tallyOf (b .registers); closed = b .progress .closed }

@@ -1,0 +1,15 @@
+// What a bench keeps.
+use crate::places::Extracted;
+use crate::shots::Progress;
+use crate::tallies::Registers;
+
+mod checks;
+
+// A bench over a carriage of any make.
+#[derive(Drop)]
+pub struct Bench<C> {
+    carriage: C,
+    progress: Progress,
+    extracted: Extracted,
+    registers: Registers,
+}
