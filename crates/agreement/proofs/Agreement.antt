@@ -127,7 +127,7 @@ charged-more true t n e = go (ltb t 3) refl
 charged-more false t n e = omega arith
 
 -- a close comes when all phases are had
-close-ended : (running : Bool) (m : Model) (closed s : ℕ) → fits (momentAt running m) closed (Close s) ≡ true → (running ≡ true) × (m .phase ≡ endPhase (m .group))
+pub close-ended : (running : Bool) (m : Model) (closed s : ℕ) → fits (momentAt running m) closed (Close s) ≡ true → (running ≡ true) × (m .phase ≡ endPhase (m .group))
 close-ended false m closed s e = absurd (both-ways false refl e)
 close-ended true m closed s e = go (eqb (m .phase) (endPhase (m .group))) refl e
   where

@@ -10,3 +10,4 @@ mod state;
 mod tallies;
 
 pub use state::Bench;
+pub use state::Unopened;

@@ -105,4 +105,21 @@ impl<C: Carriage> Bench<C> {
         }
         Ok(())
     }
+
+    // All that a begin looks at, in its order; then the place of the value given, if one was.
+    pub(super) fn check_begin<K: Kind>(
+        &self,
+        list: &[K],
+        sender: u16,
+        value: Option<&K>,
+    ) -> Result<Option<u16>, BenchFault>
+        ensures refusal { λ r. ⌜ errPart r ≡ beginFault C·Carriage (rulesOf (K·Kind .same) (K·Kind .charge) (now (list .entry))) (viewOf (now (self .entry))) sender (mapped now (value .entry)) ⌝ }
+        ensures place { λ r. ⌜ made r (λ p. p ≡ given (rulesOf (K·Kind .same) (K·Kind .charge) (now (list .entry))) (mapped now (value .entry))) ⌝ }
+    {
+        self.check_moment(Act::Begin)?;
+        self.check_length(list)?;
+        self.check_shots()?;
+        check_sender(&self.carriage.group(), sender, value.is_some())?;
+        find_given(list, value)
+    }
 }
