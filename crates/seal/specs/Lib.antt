@@ -3,3 +3,4 @@ pub mod Cells
 pub mod Sound
 pub mod View
 pub mod Seals
+pub mod Story

@@ -2,6 +2,7 @@
 ghost use Rattle.carriage.specs.Model.{injectFault, offerFault};
 ghost use Rattle.seal.specs.Seals.{isSeal, knownSeal, sealAccount, sealFault, sealModel, stateOf};
 ghost use Rattle.seal.specs.State.{freshState};
+ghost use Rattle.seal.specs.Story.{TellsTheRun};
 ghost use Rattle.std.specs.Results.{errPart};
 ghost use Rattle.std.specs.Vec.{made};
 ghost use Rattle.values.specs.Lists.{lengthFault};
@@ -22,6 +23,7 @@ impl Seal {
     pub fn new(group: Group, len: u16) -> Result<Seal, ListFault>
         ensures refusal { λ r. ⌜ errPart r ≡ lengthFault len ⌝ }
         ensures value { λ r. ⌜ made r (λ c. stateOf c ≡ freshState group len) ⌝ }
+        ensures runs { λ r. ⌜ made r TellsTheRun ⌝ }
     {
         check_length(len as usize)?;
         Ok(Seal {

@@ -4,6 +4,7 @@ use Rattle.std.proofs.shelf.Tests.{and-parts, leb-true}
 use Rattle.values.proofs.Lengths.{length-allowed}
 use Rattle.seal.specs.Sound.{Sound}
 use Rattle.seal.proofs.Kept.{fresh-sound}
+use Rattle.seal.proofs.Told.{tells-the-run}
 use Rattle.seal.proofs.Views.{start-view}
 use Rattle.seal.proofs.sealing.Seal.new.Needs as need
 
@@ -18,4 +19,5 @@ returns c =
     record {
       refusal = c .in-Continue-check-length .ensures tt;
       value = start-view (c .args .group) (c .args .len) 1 (c .blank-cells .result) (c .blank-cells .result) (c .blank-cells .ensures .0);
+      runs = tells-the-run _ (start-view (c .args .group) (c .args .len) 1 (c .blank-cells .result) (c .blank-cells .result) (c .blank-cells .ensures .0));
     }
