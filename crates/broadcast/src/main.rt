@@ -74,7 +74,12 @@ fn inject<C: Carriage>(rt: &LibcRuntime, c: &mut C, f: Frame) -> io::Result<()> 
 }
 
 // Who holds the triple now and did not before.
-fn report<C: Carriage>(rt: &LibcRuntime, c: &C, x: Triple, before: ControllerSet) -> io::Result<()> {
+fn report<C: Carriage>(
+    rt: &LibcRuntime,
+    c: &C,
+    x: Triple,
+    before: ControllerSet,
+) -> io::Result<()> {
     let newly = holders(c, x).without(before);
     if newly.is_empty() {
         return Ok(());
@@ -108,9 +113,21 @@ fn turn<C: Carriage>(rt: &LibcRuntime, c: &mut C, x: Triple, y: Triple) -> io::R
 }
 
 fn show<C: Carriage>(rt: &LibcRuntime, c: &mut C, letter: u8) -> io::Result<()> {
-    let offered = Triple { origin: 0, place: 0, round: 1 };
-    let sent = Triple { origin: 3, place: 1, round: 1 };
-    let forged = Triple { origin: 0, place: 1, round: 1 };
+    let offered = Triple {
+        origin: 0,
+        place: 0,
+        round: 1,
+    };
+    let sent = Triple {
+        origin: 3,
+        place: 1,
+        round: 1,
+    };
+    let forged = Triple {
+        origin: 0,
+        place: 1,
+        round: 1,
+    };
     println!(rt, "phase 1")?;
     offer(rt, c, offered)?;
     offer(rt, c, sent)?;
@@ -138,7 +155,10 @@ fn run(rt: &LibcRuntime) -> Result<(), AnyError> {
     let Ok(mut carriage) = Seal::new(group, 2) else {
         return Err("no such list length".into());
     };
-    println!(rt, "seal: controllers 0 to 3, controller 3 marked, 2 values")?;
+    println!(
+        rt,
+        "seal: controllers 0 to 3, controller 3 marked, 2 values"
+    )?;
     show(rt, &mut carriage, b's')?;
     Ok(())
 }

@@ -22,8 +22,10 @@ module _ (p : ℕ → Bool) where
     where
       at : q ≡ k → (ltb q k && p q) ≡ (ltb q (k + 1) && p q)
       at e = and-right (ltb q k) _ (ap p e ∙ fails) ∙ sym (and-right (ltb q (k + 1)) _ (ap p e ∙ fails))
+
       under : q < k → (ltb q k && p q) ≡ (ltb q (k + 1) && p q)
       under l = ap (λ b. b && p q) (lt-ltb q k l ∙ sym (lt-ltb q (k + 1) (omega arith)))
+
       over : k < q → (ltb q k && p q) ≡ (ltb q (k + 1) && p q)
       over l = ap (λ b. b && p q) (le-ltb q k (omega arith) ∙ sym (le-ltb q (k + 1) (omega arith)))
 
@@ -33,7 +35,9 @@ module _ (p : ℕ → Bool) where
     where
       at : q ≡ k → (eqb q k || (ltb q k && p q)) ≡ (ltb q (k + 1) && p q)
       at e = ap (λ b. b || (ltb q k && p q)) (eq-eqb q k e) ∙ sym (ap (λ b. b && p q) (lt-ltb q (k + 1) (omega arith)) ∙ ap p e ∙ passes)
+
       under : q < k → (eqb q k || (ltb q k && p q)) ≡ (ltb q (k + 1) && p q)
       under l = ap (λ b. b || (ltb q k && p q)) (ne-eqb q k (λ e. omega arith)) ∙ ap (λ b. b && p q) (lt-ltb q k l ∙ sym (lt-ltb q (k + 1) (omega arith)))
+
       over : k < q → (eqb q k || (ltb q k && p q)) ≡ (ltb q (k + 1) && p q)
       over l = ap (λ b. b || (ltb q k && p q)) (ne-eqb q k (λ e. omega arith)) ∙ ap (λ b. b && p q) (le-ltb q k (omega arith) ∙ sym (le-ltb q (k + 1) (omega arith)))

@@ -16,7 +16,7 @@ loop-q-again g c =
     let q = c .loop-q .q in
     let small : q < 16 = omega (arith, c .group .result .few) in
     elim (c .if-is-holder .came) [
-      then-is-holder w ↦ subst (HoldersBelow _ m x) (sym (w .found-is)) (built-join (holds m x) q (c .loop-q .found) (w .with-found .result) (c .loop-q .inv) small (sym (c .is-holder .ensures) ∙ w .if-is-holder .taken) (w .with-found .ensures))
+      | then-is-holder w ↦ subst (HoldersBelow _ m x) (sym (w .found-is)) (built-join (holds m x) q (c .loop-q .found) (w .with-found .result) (c .loop-q .inv) small (sym (c .is-holder .ensures) ∙ w .if-is-holder .taken) (w .with-found .ensures))
       | else-is-holder w ↦ subst (HoldersBelow _ m x) (sym (w .found-is)) (built-skip (holds m x) q (c .loop-q .found) (c .loop-q .inv) (sym (c .is-holder .ensures) ∙ w .if-is-holder .left))
     ]
 
