@@ -1,5 +1,5 @@
 // How a seal carriage is made, and its calls.
-ghost use Rattle.carriage.specs.Model.{injectFault, offerFault};
+ghost use Rattle.carriage.specs.Model.{injectFault};
 ghost use Rattle.seal.specs.Seals.{isSeal, knownSeal, sealAccount, sealFault, sealModel, stateOf};
 ghost use Rattle.seal.specs.State.{freshState};
 ghost use Rattle.seal.specs.Story.{TellsTheRun};
@@ -15,6 +15,9 @@ use carriage::CarriageFault;
 use carriage::Frame;
 use carriage::Group;
 use carriage::Triple;
+use carriage::check_ends;
+use carriage::check_offer;
+use carriage::check_read;
 use values::ListFault;
 use values::check_length;
 
@@ -34,27 +37,10 @@ impl Seal {
         })
     }
 
-    fn check_offer(&self, x: Triple) -> Result<(), CarriageFault>
-        ensures { λ r. ⌜ errPart r ≡ offerFault (sealModel (now (self .entry))) x ⌝ }
-    {
-        if !x.in_range(&self.group, self.len) {
-            return Err(CarriageFault::Range);
-        }
-        if !self.group.is_correct(x.origin) || self.phase + 1 != 2 * x.round {
-            return Err(CarriageFault::Offer);
-        }
-        Ok(())
-    }
-
     fn check_frame(&self, f: Frame) -> Result<(), CarriageFault>
         ensures { λ r. ⌜ errPart r ≡ injectFault (isSeal f) (knownSeal (stateOf (now (self .entry))) f) (sealModel (now (self .entry))) f ⌝ }
     {
-        if !self.group.is_marked(f.from) {
-            return Err(CarriageFault::From);
-        }
-        if !self.group.is_correct(f.to) {
-            return Err(CarriageFault::NotCorrect);
-        }
+        check_ends(&self.group, f)?;
         match f.letter() {
             's' => self.check_seal(f.triple),
             _ => Err(CarriageFault::Letter),
@@ -96,7 +82,8 @@ pub impl Carriage for Seal as SealCarriage {
     }
 
     fn offer(&mut self, x: Triple) -> Result<(), CarriageFault> {
-        self.check_offer(x)?;
+        let group = self.group;
+        check_offer(&group, self.len, self.phase, x)?;
         let slot = x.slot();
         let mut cell = self.cells[slot];
         cell.offered = true;
@@ -125,13 +112,8 @@ pub impl Carriage for Seal as SealCarriage {
     }
 
     fn held(&self, q: u16, x: Triple) -> Result<bool, CarriageFault> {
-        if !self.group.is_correct(q) {
-            return Err(CarriageFault::NotCorrect);
-        }
-        if !x.in_range(&self.group, self.len) {
-            return Err(CarriageFault::Range);
-        }
-        Ok(self.cells[x.slot()].accepted.contains(q))
+        let accepted = self.cells[x.slot()].accepted.contains(q);
+        check_read(&self.group, self.len, q, x, accepted)
     }
 
     fn group(&self) -> Group {
