@@ -1,0 +1,5 @@
+pub mod Steps
+pub mod State
+pub mod Consistent
+pub mod Cells
+pub mod View
