@@ -1,3 +1,5 @@
 pub mod Marked
 pub mod Held
 pub mod Slots
+pub mod Tables
+pub mod Quorums

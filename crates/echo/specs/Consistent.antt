@@ -4,15 +4,10 @@ use mathlib.Core.Bool.{Bool, true}
 use mathlib.Core.Path.{_≡_}
 use Rattle.carriage.specs.Groups.{correct, marked}
 use Rattle.carriage.specs.Triples.{inRange}
-use Rattle.carriage.specs.Model.{endPhase}
 use Rattle.carriage.specs.declared.frames.Triple.{Triple}
 use Rattle.echo.specs.State.{State, takesPart}
 
 pub record Consistent (s : State) : Type 0 where
-  pub some : 1 ≤ s .len
-  pub few : s .len ≤ 4
-  pub begun : 1 ≤ s .phase
-  pub ends : s .phase ≤ endPhase (s .group)
   pub offers : (x : Triple) → s .offered x ≡ true → (inRange (s .group) (s .len) x ≡ true) × (correct (s .group) (x .origin) ≡ true) × (2 * x .round ≤ s .phase + 1)
   -- what is injected comes from marked controllers
   pub tells : (q : ℕ) (x : Triple) → s .told q x ≡ true → (marked (s .group) (x .origin) ≡ true) × (2 * x .round ≤ s .phase + 1)

@@ -53,18 +53,22 @@ initCounts k f = eqb (f .letter) 105 && (eqb (f .from) (f .triple .origin) && eq
 abbrev pub echoCounts : (phase : ℕ) → Frame → Bool
 echoCounts k f = eqb (f .letter) 101 && leb (2 * f .triple .round) k
 
--- every other frame is taken without effect
-abbrev pub injectState : State → Frame → State
-injectState s f = record {
+-- the frame is heard as an init frame, or as an e-frame, of its triple
+abbrev pub hearFrame : (init echo : Bool) → State → Frame → State
+hearFrame init echo s f = record {
   group = s .group;
   len = s .len;
   phase = s .phase;
   offered = s .offered;
-  told = λ q x. (initCounts (s .phase) f && (sameTriple (f .triple) x && eqb q (f .to))) || s .told q x;
+  told = λ q x. ((init && eqb q (f .to)) && sameTriple (f .triple) x) || s .told q x;
   witness = s .witness;
   accepted = s .accepted;
-  echoed = λ q p x. (echoCounts (s .phase) f && (sameTriple (f .triple) x && (eqb q (f .to) && eqb p (f .from)))) || s .echoed q p x;
+  echoed = λ q p x. ((echo && (eqb q (f .to) && eqb p (f .from))) && sameTriple (f .triple) x) || s .echoed q p x;
 }
+
+-- every frame that does not count is taken without effect
+abbrev pub injectState : State → Frame → State
+injectState s f = hearFrame (initCounts (s .phase) f) (echoCounts (s .phase) f) s f
 
 -- in phase 2i − 1 q hears the init frame from the origin: offered, so sent to all, or injected
 abbrev pub hearsInit : State → ℕ → Triple → Bool
