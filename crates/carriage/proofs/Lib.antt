@@ -2,4 +2,6 @@ pub mod Marked
 pub mod Held
 pub mod Slots
 pub mod Tables
+pub mod Props
+pub mod Allowed
 pub mod Quorums

@@ -1,0 +1,5 @@
+pub mod State
+pub mod Cells
+pub mod Sound
+pub mod View
+pub mod Seals
