@@ -1,7 +1,7 @@
 -- Every call keeps a carriage consistent, and a consistent one keeps the laws of a carriage. Assumes nothing.
 use mathlib.Core.Path.{_≡_, refl, sym, ap, _∙_}
-use mathlib.Core.Bool.{Bool, true, false, not, _&&_, _||_}
-use mathlib.Core.Logic.{_⊎_, inl, inr, ⊎-elim}
+use mathlib.Core.Bool.{Bool, true, false, not, _&&_, _||_, Bool-set}
+use mathlib.Core.Logic.{_⊎_, inl, inr, ⊎-elim, ∥∥₁-elim}
 use Prim.Native.Nat.{ℕ, _+_, _-_, _*_, _≤_, _<_}
 use native.Mathlib.Omega.{arith}
 use lib.Dec.{eqb, leb, ltb}
@@ -17,7 +17,7 @@ use Rattle.carriage.specs.declared.frames.Frame.{Frame}
 use Rattle.carriage.proofs.Slots.{same-is}
 use Rattle.carriage.proofs.Quorums.{correct-many, many-correct, one-unmarked}
 use Rattle.echo.specs.Steps.{becomesWitness, accepts}
-use Rattle.echo.specs.State.{State, modelOf, freshState, offerState, hearFrame, injectState, turnState, hearsInit, heardEcho, takesPart, newWitness, newAccepted, initCounts}
+use Rattle.echo.specs.State.{State, modelOf, freshState, offerState, hearFrame, injectState, turnState, hearsInit, heardEcho, takesPart, newWitness, newAccepted, initCounts, echoCounts}
 use Rattle.echo.specs.Consistent.{Consistent}
 
 pub lawful : (s : State) → 1 ≤ s .len → s .len ≤ 4 → 1 ≤ s .phase → s .phase ≤ endPhase (s .group) → Consistent s → Lawful (modelOf s)
@@ -61,7 +61,7 @@ module _ (s : State) (h : Consistent s) where
   }
 
   -- a marked controller's frame is heard; an init frame comes from the origin, in the first phase of its round
-  pub hear-consistent : (init echo : Bool) (f : Frame) → marked (s .group) (f .from) ≡ true → (init ≡ true → (f .from ≡ f .triple .origin) × (s .phase + 1 ≡ 2 * f .triple .round)) → Consistent (hearFrame init echo s f)
+  hear-consistent : (init echo : Bool) (f : Frame) → marked (s .group) (f .from) ≡ true → (init ≡ true → (f .from ≡ f .triple .origin) × (s .phase + 1 ≡ 2 * f .triple .round)) → Consistent (hearFrame init echo s f)
   hear-consistent init echo f m origin = record {
     offers = h .offers;
     tells = λ q x e. ⊎-elim (told q x) (h .tells q x) (or-cases ((init && eqb q (f .to)) && sameTriple (f .triple) x) (s .told q x) e);
@@ -87,6 +87,15 @@ module _ (s : State) (h : Consistent s) where
           let b = and-parts echo (eqb q (f .to) && eqb p (f .from)) (a .0) in
           let c = and-parts (eqb q (f .to)) (eqb p (f .from)) (b .1) in
           ap (marked (s .group)) (eqb-true p (f .from) (c .1)) ∙ m
+
+  pub inject-consistent : (f : Frame) → marked (s .group) (f .from) ≡ true → Consistent (injectState s f)
+  inject-consistent f m = hear-consistent (initCounts (s .phase) f) (echoCounts (s .phase) f) f m origin
+    where
+      origin : initCounts (s .phase) f ≡ true → (f .from ≡ f .triple .origin) × (s .phase + 1 ≡ 2 * f .triple .round)
+      origin e =
+          let a = and-parts (eqb (f .letter) 105) _ e in
+          let b = and-parts (eqb (f .from) (f .triple .origin)) (eqb (s .phase + 1) (2 * f .triple .round)) (a .1) in
+          (eqb-true (f .from) (f .triple .origin) (b .0), eqb-true (s .phase + 1) (2 * f .triple .round) (b .1))
 
   -- a new witness: it heard the init frame in the first phase of the round, or enough echoes later
   joined : (q : ℕ) (x : Triple) → newWitness s q x ≡ true
@@ -146,7 +155,7 @@ module _ (s : State) (h : Consistent s) where
   valid-after q x e l c = or-right _ _ (all-take q x (and-from _ _ (h .offers x e .0) c) (omega arith) (λ r d. h .spread r x e (omega arith) d))
 
   -- what one had accepted, every correct controller has accepted after the turn
-  relayed : (q r : ℕ) (x : Triple) → s .accepted q x ≡ true → correct (s .group) r ≡ true → turnState s .accepted r x ≡ true
+  pub relayed : (q r : ℕ) (x : Triple) → s .accepted q x ≡ true → correct (s .group) r ≡ true → turnState s .accepted r x ≡ true
   relayed q r x e c =
       let w = h .witnesses r x (h .backed q r x e c) in
       or-right _ _ (all-take r x (w .0) (w .1) (λ p d. h .backed q p x e d))
@@ -164,12 +173,12 @@ module _ (s : State) (h : Consistent s) where
     backed = backed-after;
   }
 
-  pub turns-on : Turned (modelOf s) (modelOf (turnState s))
-  turns-on = record {
-    group = refl;
-    len = refl;
-    phase = refl;
-    offered = refl;
-    grows = λ q x e. or-left (s .accepted q x) (newAccepted s q x) e;
-    relay = relayed;
-  }
+pub turns-on : (s : State) → ∥ Consistent s ∥₁ → Turned (modelOf s) (modelOf (turnState s))
+turns-on s h = record {
+  group = refl;
+  len = refl;
+  phase = refl;
+  offered = refl;
+  grows = λ q x e. or-left (s .accepted q x) (newAccepted s q x) e;
+  relay = λ q r x e c. ∥∥₁-elim h (Bool-set _ _) (λ consistent. relayed s consistent q r x e c);
+}

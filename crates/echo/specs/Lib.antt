@@ -3,3 +3,4 @@ pub mod State
 pub mod Consistent
 pub mod Cells
 pub mod View
+pub mod Echoes

@@ -57,7 +57,7 @@ impl Hearing {
 }
 
 // The set, with the controller `q` if `joins`.
-fn with_if(set: ControllerSet, q: u16, joins: bool) -> ControllerSet
+pub fn with_if(set: ControllerSet, q: u16, joins: bool) -> ControllerSet
     requires { ⌜ q < 16 ⌝ }
     ensures { λ r. ⌜ ((k : ℕ) → has r k ≡ ((joins && eqb k q) || has set k)) ⌝ }
 {
