@@ -4,3 +4,4 @@ pub mod Consistent
 pub mod Cells
 pub mod View
 pub mod Echoes
+pub mod Story

@@ -2,6 +2,7 @@
 ghost use Rattle.carriage.specs.Model.{injectFault, offerFault, heldAnswer};
 ghost use Rattle.echo.specs.Echoes.{anySeal, echoAccount, echoModel, isEchoLetter, stateOf, witnessAnswer};
 ghost use Rattle.echo.specs.State.{freshState, initCounts, echoCounts};
+ghost use Rattle.echo.specs.Story.{TellsTheRun};
 ghost use Rattle.std.specs.Results.{errPart};
 ghost use Rattle.std.specs.Vec.{made};
 ghost use Rattle.values.specs.Lists.{lengthFault};
@@ -24,6 +25,7 @@ impl Echo {
     pub fn new(group: Group, len: u16) -> Result<Echo, ListFault>
         ensures refusal { λ r. ⌜ errPart r ≡ lengthFault len ⌝ }
         ensures value { λ r. ⌜ made r (λ c. stateOf c ≡ freshState group len) ⌝ }
+        ensures runs { λ r. ⌜ made r TellsTheRun ⌝ }
     {
         check_length(len as usize)?;
         Ok(Echo {

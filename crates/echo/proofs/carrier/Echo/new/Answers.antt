@@ -3,6 +3,7 @@ use native.Mathlib.Omega.{arith}
 use Rattle.values.proofs.Lengths.{length-allowed}
 use Rattle.echo.specs.Consistent.{Consistent}
 use Rattle.echo.proofs.Kept.{fresh-consistent}
+use Rattle.echo.proofs.Told.{tells-the-run}
 use Rattle.echo.proofs.Views.{start-view}
 use Rattle.echo.proofs.carrier.Echo.new.Needs as need
 
@@ -14,7 +15,5 @@ ghost-result c =
 
 pub returns : need.returns
 returns c =
-    record {
-      refusal = c .in-Continue-check-length .ensures tt;
-      value = start-view (c .args .group) (c .args .len) 1 (c .blank-cells .result) (c .blank-cells .result) (c .blank-rows .result) (c .blank-rows .result) (c .blank-cells .ensures .0) (c .blank-rows .ensures .0);
-    }
+    let view = start-view (c .args .group) (c .args .len) 1 (c .blank-cells .result) (c .blank-cells .result) (c .blank-rows .result) (c .blank-rows .result) (c .blank-cells .ensures .0) (c .blank-rows .ensures .0) in
+    record { refusal = c .in-Continue-check-length .ensures tt; value = view; runs = tells-the-run _ view }
