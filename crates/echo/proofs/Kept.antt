@@ -17,7 +17,7 @@ use Rattle.carriage.specs.declared.frames.Frame.{Frame}
 use Rattle.carriage.proofs.Slots.{same-is}
 use Rattle.carriage.proofs.Quorums.{correct-many, many-correct, one-unmarked}
 use Rattle.echo.specs.Steps.{becomesWitness, accepts}
-use Rattle.echo.specs.State.{State, modelOf, freshState, offerState, hearFrame, injectState, turnState, hearsInit, heardEcho, takesPart, newWitness, newAccepted, initCounts, echoCounts}
+use Rattle.echo.specs.State.{State, modelOf, freshState, offerState, hearFrame, injectState, turnState, hearsInit, heardEcho, takesPart, newWitness, newAccepted, initLetter, initCounts, echoCounts}
 use Rattle.echo.specs.Consistent.{Consistent}
 
 pub lawful : (s : State) → 1 ≤ s .len → s .len ≤ 4 → 1 ≤ s .phase → s .phase ≤ endPhase (s .group) → Consistent s → Lawful (modelOf s)
@@ -93,7 +93,7 @@ module _ (s : State) (h : Consistent s) where
     where
       origin : initCounts (s .phase) f ≡ true → (f .from ≡ f .triple .origin) × (s .phase + 1 ≡ 2 * f .triple .round)
       origin e =
-          let a = and-parts (eqb (f .letter) 105) _ e in
+          let a = and-parts (eqb (f .letter) initLetter) _ e in
           let b = and-parts (eqb (f .from) (f .triple .origin)) (eqb (s .phase + 1) (2 * f .triple .round)) (a .1) in
           (eqb-true (f .from) (f .triple .origin) (b .0), eqb-true (s .phase + 1) (2 * f .triple .round) (b .1))
 

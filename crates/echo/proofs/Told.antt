@@ -18,7 +18,7 @@ use Rattle.carriage.specs.declared.frames.Frame.{Frame}
 use Rattle.carriage.proofs.Slots.{same-is}
 use Rattle.echo.specs.Consistent.{Consistent}
 use Rattle.echo.specs.Echoes.{echoAccount, stateOf}
-use Rattle.echo.specs.State.{State, freshState, startState, offerState, injectState, turnState, initCounts, echoCounts}
+use Rattle.echo.specs.State.{State, initLetter, echoLetter, freshState, startState, offerState, injectState, turnState, initCounts, echoCounts}
 use Rattle.echo.specs.Steps.{becomesWitness, accepts}
 use Rattle.echo.specs.Story.{initTo, echoTo, hearsInitNow, joinsNow, isWitness, hasHeard, hasAccepted, Says, TellsTheRun}
 use Rattle.echo.specs.declared.carrier.Echo.{Echo}
@@ -62,11 +62,11 @@ init-same k f q x = go (sameTriple (f .triple) x) refl
     none false b l o t = refl
 
     go : (s : Bool) → sameTriple (f .triple) x ≡ s
-        → (eqb (k + 1) (2 * x .round) && ((initCounts k f && eqb q (f .to)) && s)) ≡ (eqb (k + 1) (2 * x .round) && (eqb (f .letter) 105 && (eqb (f .from) (x .origin) && (eqb q (f .to) && s))))
+        → (eqb (k + 1) (2 * x .round) && ((initCounts k f && eqb q (f .to)) && s)) ≡ (eqb (k + 1) (2 * x .round) && (eqb (f .letter) initLetter && (eqb (f .from) (x .origin) && (eqb q (f .to) && s))))
     go true e =
-        ap (λ z. eqb (k + 1) (2 * x .round) && (((eqb (f .letter) 105 && (eqb (f .from) (z .origin) && eqb (k + 1) (2 * z .round))) && eqb q (f .to)) && true)) (same-is (f .triple) x e)
-        ∙ shuffle (eqb (k + 1) (2 * x .round)) (eqb (f .letter) 105) (eqb (f .from) (x .origin)) (eqb q (f .to))
-    go false e = none (eqb (k + 1) (2 * x .round)) (initCounts k f && eqb q (f .to)) (eqb (f .letter) 105) (eqb (f .from) (x .origin)) (eqb q (f .to))
+        ap (λ z. eqb (k + 1) (2 * x .round) && (((eqb (f .letter) initLetter && (eqb (f .from) (z .origin) && eqb (k + 1) (2 * z .round))) && eqb q (f .to)) && true)) (same-is (f .triple) x e)
+        ∙ shuffle (eqb (k + 1) (2 * x .round)) (eqb (f .letter) initLetter) (eqb (f .from) (x .origin)) (eqb q (f .to))
+    go false e = none (eqb (k + 1) (2 * x .round)) (initCounts k f && eqb q (f .to)) (eqb (f .letter) initLetter) (eqb (f .from) (x .origin)) (eqb q (f .to))
 
 echo-same : (k : ℕ) (f : Frame) (q p : ℕ) (x : Triple)
     → (leb (2 * x .round) k && echoTo q p x f) ≡ ((echoCounts k f && (eqb q (f .to) && eqb p (f .from))) && sameTriple (f .triple) x)
@@ -94,11 +94,11 @@ echo-same k f q p x = go (sameTriple (f .triple) x) refl
     none false false l o t = refl
 
     go : (s : Bool) → sameTriple (f .triple) x ≡ s
-        → (leb (2 * x .round) k && (eqb (f .letter) 101 && (eqb p (f .from) && (eqb q (f .to) && s)))) ≡ ((echoCounts k f && (eqb q (f .to) && eqb p (f .from))) && s)
+        → (leb (2 * x .round) k && (eqb (f .letter) echoLetter && (eqb p (f .from) && (eqb q (f .to) && s)))) ≡ ((echoCounts k f && (eqb q (f .to) && eqb p (f .from))) && s)
     go true e =
-        shuffle (leb (2 * x .round) k) (eqb (f .letter) 101) (eqb p (f .from)) (eqb q (f .to))
-        ∙ ap (λ z. ((eqb (f .letter) 101 && leb (2 * z .round) k) && (eqb q (f .to) && eqb p (f .from))) && true) (sym (same-is (f .triple) x e))
-    go false e = none (leb (2 * x .round) k) (echoCounts k f && (eqb q (f .to) && eqb p (f .from))) (eqb (f .letter) 101) (eqb p (f .from)) (eqb q (f .to))
+        shuffle (leb (2 * x .round) k) (eqb (f .letter) echoLetter) (eqb p (f .from)) (eqb q (f .to))
+        ∙ ap (λ z. ((eqb (f .letter) echoLetter && leb (2 * z .round) k) && (eqb q (f .to) && eqb p (f .from))) && true) (sym (same-is (f .triple) x e))
+    go false e = none (leb (2 * x .round) k) (echoCounts k f && (eqb q (f .to) && eqb p (f .from))) (eqb (f .letter) echoLetter) (eqb p (f .from)) (eqb q (f .to))
 
 module _ (g : Group) (len : ℕ) where
   -- the state that the events tell of

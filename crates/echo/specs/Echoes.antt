@@ -14,7 +14,7 @@ use Rattle.carriage.specs.declared.faults.CarriageFault.the-variants.{NotCorrec
 use Rattle.carriage.specs.declared.frames.Triple.{Triple}
 use Rattle.carriage.specs.declared.frames.Frame.{Frame}
 use Rattle.carriage.specs.declared.meaning.Carriage.{Ghosts as Account}
-use Rattle.echo.specs.State.{State, modelOf, startState, offerState, injectState, turnState}
+use Rattle.echo.specs.State.{State, initLetter, echoLetter, modelOf, startState, offerState, injectState, turnState}
 use Rattle.echo.specs.View.{viewOf}
 use Rattle.echo.specs.declared.carrier.Echo.{Echo}
 
@@ -26,7 +26,7 @@ echoModel c = modelOf (stateOf c)
 
 -- i and e are the letters of this carriage
 abbrev pub isEchoLetter : Frame → Bool
-isEchoLetter f = eqb (f .letter) 105 || eqb (f .letter) 101
+isEchoLetter f = eqb (f .letter) initLetter || eqb (f .letter) echoLetter
 
 -- no frame of this carriage is a seal, and so none is refused as one
 abbrev pub anySeal : Frame → Bool

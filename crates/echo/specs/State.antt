@@ -45,13 +45,20 @@ offerState s x = record {
   echoed = s .echoed;
 }
 
+-- the letters of init frames and e-frames, as the characters i and e
+abbrev pub initLetter : ℕ
+initLetter = 105
+
+abbrev pub echoLetter : ℕ
+echoLetter = 101
+
 -- an init frame counts in phase 2i − 1, from the origin itself
 abbrev pub initCounts : (phase : ℕ) → Frame → Bool
-initCounts k f = eqb (f .letter) 105 && (eqb (f .from) (f .triple .origin) && eqb (k + 1) (2 * f .triple .round))
+initCounts k f = eqb (f .letter) initLetter && (eqb (f .from) (f .triple .origin) && eqb (k + 1) (2 * f .triple .round))
 
 -- an e-frame counts from phase 2i on
 abbrev pub echoCounts : (phase : ℕ) → Frame → Bool
-echoCounts k f = eqb (f .letter) 101 && leb (2 * f .triple .round) k
+echoCounts k f = eqb (f .letter) echoLetter && leb (2 * f .triple .round) k
 
 -- the frame is heard as an init frame, or as an e-frame, of its triple
 abbrev pub hearFrame : (init echo : Bool) → State → Frame → State

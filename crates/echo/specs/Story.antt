@@ -14,17 +14,18 @@ use Rattle.carriage.specs.Moments.{Since, SamePhase}
 use Rattle.carriage.specs.declared.members.Group.{Group}
 use Rattle.carriage.specs.declared.frames.Triple.{Triple}
 use Rattle.carriage.specs.declared.frames.Frame.{Frame}
+use Rattle.echo.specs.State.{initLetter, echoLetter}
 use Rattle.echo.specs.Steps.{becomesWitness, accepts}
 use Rattle.echo.specs.Echoes.{echoAccount, stateOf}
 use Rattle.echo.specs.declared.carrier.Echo.{Echo}
 
--- the frame brings q the init frame (letter i) of x, from the origin of x itself
+-- the frame brings q the init frame of x, from the origin of x itself
 abbrev pub initTo : ℕ → Triple → Frame → Bool
-initTo q x f = eqb (f .letter) 105 && (eqb (f .from) (x .origin) && (eqb q (f .to) && sameTriple (f .triple) x))
+initTo q x f = eqb (f .letter) initLetter && (eqb (f .from) (x .origin) && (eqb q (f .to) && sameTriple (f .triple) x))
 
--- the frame brings q the e-frame (letter e) of x from p
+-- the frame brings q the e-frame of x from p
 abbrev pub echoTo : (q p : ℕ) → Triple → Frame → Bool
-echoTo q p x f = eqb (f .letter) 101 && (eqb p (f .from) && (eqb q (f .to) && sameTriple (f .triple) x))
+echoTo q p x f = eqb (f .letter) echoLetter && (eqb p (f .from) && (eqb q (f .to) && sameTriple (f .triple) x))
 
 -- q hears the init frame of x from its origin in the current phase: x was offered, and so sent to all, or it was injected
 abbrev pub hearsInitNow : List Event → ℕ → Triple → Bool
@@ -102,7 +103,7 @@ pub record EchoRules (g : Group) (len : ℕ) : Type 0 where
   pub correct-witness : (es : List Event) (q : ℕ) (x : Triple) → isWitness g len es q x ≡ true → (correct g q ≡ true) × (inRange g len x ≡ true)
   pub correct-accepted : (es : List Event) (q : ℕ) (x : Triple) → hasAccepted g len es q x ≡ true → (correct g q ≡ true) × (inRange g len x ≡ true)
 
--- the reads of a carriage after a run: exactly what the events say
+-- a carriage after a run is, and its reads answer, exactly what the events say
 pub record Says (g : Group) (len : ℕ) (es : List Event) (c : Echo) : Type 0 where
   pub group : stateOf c .group ≡ g
   pub length : stateOf c .len ≡ len

@@ -117,6 +117,9 @@ impl Cell {
         requires { ⌜ slot < 384 ⌝ ∗ ⌜ phase < 100 ⌝ ∗ ⌜ round < 100 ⌝ }
         ensures { λ r. ⌜ CellTurned (now (group .entry)) phase round (echoRow (now (echoes .entry)) slot) self r ⌝ }
     {
+        if phase + 1 < 2 * round {
+            return self;
+        }
         let mut witness = self.witness;
         let mut accepted = self.accepted;
         for q in 0..group.n() {
