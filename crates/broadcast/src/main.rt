@@ -1,5 +1,6 @@
 // Carries two triples through a group of four controllers of which controller 3 is marked: one that controller 0 offers,
-// and one that only controller 3 sends, to some. Prints phase by phase what was sent, what was refused and who accepted.
+// and one that only controller 3 sends, to some; once by the seal carriage and once by the echo carriage. Prints phase
+// by phase what was sent, what was refused and who accepted.
 ghost use Rattle.broadcast.specs.Holders.{HoldersBelow, holds};
 ghost use mathlib.Core.Path.{_≡_};
 use carriage::Carriage;
@@ -10,6 +11,8 @@ use carriage::Frame;
 use carriage::Group;
 use carriage::Marks;
 use carriage::Triple;
+use echo::Echo;
+use echo::EchoCarriage;
 use seal::Seal;
 use seal::SealCarriage;
 use sets::ControllerSet;
@@ -112,37 +115,60 @@ fn turn<C: Carriage>(rt: &LibcRuntime, c: &mut C, x: Triple, y: Triple) -> io::R
     Ok(true)
 }
 
-fn show<C: Carriage>(rt: &LibcRuntime, c: &mut C, letter: u8) -> io::Result<()> {
-    let offered = Triple {
-        origin: 0,
-        place: 0,
-        round: 1,
-    };
-    let sent = Triple {
-        origin: 3,
-        place: 1,
-        round: 1,
-    };
+const OFFERED: Triple = Triple {
+    origin: 0,
+    place: 0,
+    round: 1,
+};
+
+const SENT: Triple = Triple {
+    origin: 3,
+    place: 1,
+    round: 1,
+};
+
+// Controller 0 offers one triple; controller 3 may not offer the other, and sends it to controllers 0 and 1 alone.
+fn first_phase<C: Carriage>(rt: &LibcRuntime, c: &mut C, letter: u8) -> io::Result<()> {
+    println!(rt, "phase 1")?;
+    offer(rt, c, OFFERED)?;
+    offer(rt, c, SENT)?;
+    inject(rt, c, Frame::new(3, 0, letter, SENT))?;
+    inject(rt, c, Frame::new(3, 1, letter, SENT))
+}
+
+// Frames that are refused, each for another cause, and one that forges a triple of controller 0.
+fn refusals<C: Carriage>(rt: &LibcRuntime, c: &mut C, letter: u8) -> io::Result<()> {
     let forged = Triple {
         origin: 0,
         place: 1,
         round: 1,
     };
-    println!(rt, "phase 1")?;
-    offer(rt, c, offered)?;
-    offer(rt, c, sent)?;
-    inject(rt, c, Frame::new(3, 0, letter, sent))?;
-    inject(rt, c, Frame::new(3, 1, letter, sent))?;
-    inject(rt, c, Frame::new(3, 2, letter, forged))?;
-    inject(rt, c, Frame::new(1, 2, letter, sent))?;
-    inject(rt, c, Frame::new(3, 3, letter, sent))?;
-    inject(rt, c, Frame::new(3, 2, b'x', sent))?;
+    let unlisted = Triple {
+        origin: 3,
+        place: 2,
+        round: 1,
+    };
+    inject(rt, c, Frame::new(1, 2, letter, SENT))?;
+    inject(rt, c, Frame::new(3, 3, letter, SENT))?;
+    inject(rt, c, Frame::new(3, 2, b'x', SENT))?;
+    inject(rt, c, Frame::new(3, 2, letter, unlisted))?;
+    inject(rt, c, Frame::new(3, 2, letter, forged))
+}
+
+// Turns until a turn is refused.
+fn turns<C: Carriage>(rt: &LibcRuntime, c: &mut C) -> io::Result<()> {
     for _ in 0..6 {
-        if !turn(rt, c, offered, sent)? {
+        if !turn(rt, c, OFFERED, SENT)? {
             break;
         }
     }
     Ok(())
+}
+
+fn show<C: Carriage>(rt: &LibcRuntime, c: &mut C, letter: u8) -> io::Result<()> {
+    first_phase(rt, c, letter)?;
+    refusals(rt, c, letter)?;
+    turns(rt, c)
 }
 
 fn run(rt: &LibcRuntime) -> Result<(), AnyError> {
@@ -152,14 +178,20 @@ fn run(rt: &LibcRuntime) -> Result<(), AnyError> {
     let Ok(group) = Group::new(4, 1, marks) else {
         return Err("no such group".into());
     };
-    let Ok(mut carriage) = Seal::new(group, 2) else {
+    let Ok(mut seal) = Seal::new(group, 2) else {
+        return Err("no such list length".into());
+    };
+    let Ok(mut echo) = Echo::new(group, 2) else {
         return Err("no such list length".into());
     };
     println!(
         rt,
-        "seal: controllers 0 to 3, controller 3 marked, 2 values"
+        "controllers 0 to 3, controller 3 marked, lists of 2 values"
     )?;
-    show(rt, &mut carriage, b's')?;
+    println!(rt, "the seal carriage")?;
+    show(rt, &mut seal, b's')?;
+    println!(rt, "the echo carriage")?;
+    show(rt, &mut echo, b'i')?;
     Ok(())
 }
 

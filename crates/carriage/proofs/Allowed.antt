@@ -7,8 +7,11 @@ use lib.Dec.{eqb}
 use Rattle.std.specs.declared.option.Option.{Option}
 use Rattle.std.specs.declared.option.Option.the-variants.{None, Some}
 use Rattle.std.proofs.shelf.Tests.{and-parts, eqb-true, eqb-false}
-use Rattle.carriage.specs.Groups.{marked}
-use Rattle.carriage.specs.Model.{Model, isCorrect, knows, endPhase, offerFault, injectFault, turnFault}
+use Rattle.carriage.specs.Groups.{marked, correct}
+use Rattle.carriage.specs.Model.{Model, isCorrect, knows, endPhase, offerFault, injectFault, turnFault, frameCause}
+use Rattle.carriage.specs.declared.faults.CarriageFault.{CarriageFault}
+use Rattle.carriage.specs.declared.faults.CarriageFault.the-variants.{From, NotCorrect}
+use Rattle.carriage.specs.declared.members.Group.{Group}
 use Rattle.carriage.specs.declared.frames.Triple.{Triple}
 use Rattle.carriage.specs.declared.frames.Frame.{Frame}
 
@@ -40,3 +43,12 @@ inject-allowed letter seal m f h =
 
 pub turn-allowed : (m : Model) → m .phase ≤ endPhase (m .group) → turnFault m ≡ None → m .phase < endPhase (m .group)
 turn-allowed m le h = let ne : m .phase ≡ endPhase (m .group) → ⊥ = eqb-false _ _ (no-fault-left (eqb (m .phase) (endPhase (m .group))) _ h) in omega arith
+
+-- a fault of a frame's ends comes before anything that the carriage finds in it
+pub ends-first : (g : Group) (f : Frame) (found : Option CarriageFault) (e : CarriageFault) → frameCause g f None ≡ Some e → frameCause g f found ≡ Some e
+ends-first g f found e = go (marked g (f .from)) (correct g (f .to))
+  where
+    go : (a b : Bool) → cond a (cond b None (Some NotCorrect)) (Some From) ≡ Some e → cond a (cond b found (Some NotCorrect)) (Some From) ≡ Some e
+    go true true h = let z : _≡_ {A = ℕ} 0 1 = cc in absurd (omega arith)
+    go true false h = h
+    go false b h = h

@@ -13,6 +13,7 @@ use Rattle.sets.proofs.Counts.{someone-in, in-someone}
 use Rattle.carriage.specs.Groups.{correct}
 use Rattle.carriage.specs.Triples.{inRange, sameTriple}
 use Rattle.carriage.specs.Runs.{Event, start, offer, inject, turn, Ran, none, started, offered, injected, turned, phaseAfter, wasOffered, offeredNow, injectedNow}
+use Rattle.carriage.specs.Moments.{Since, SamePhase}
 use Rattle.carriage.specs.declared.members.Group.{Group}
 use Rattle.carriage.specs.declared.frames.Triple.{Triple}
 use Rattle.carriage.specs.declared.frames.Frame.{Frame}
@@ -22,7 +23,7 @@ use Rattle.carriage.proofs.Slots.{same-is}
 use Rattle.seal.specs.Seals.{sealAccount, sealModel, stateOf}
 use Rattle.seal.specs.Sound.{Sound}
 use Rattle.seal.specs.State.{State, freshState, startState, offerState, injectState, turnState, takes}
-use Rattle.seal.specs.Story.{bringsTo, hearsNow, stepsNow, hasAccepted, newlyAccepted, Since, SamePhase, OnePhaseEarlier, Hears, Heard, Says, TellsTheRun}
+use Rattle.seal.specs.Story.{bringsTo, hearsNow, stepsNow, hasAccepted, newlyAccepted, OnePhaseEarlier, Hears, Heard, Says, TellsTheRun}
 use Rattle.seal.specs.declared.sealing.Seal.{Seal}
 
 module _ (g : Group) (len : ℕ) where

@@ -9,6 +9,7 @@ use Rattle.sets.specs.Sets.{count}
 use Rattle.carriage.specs.Groups.{correct}
 use Rattle.carriage.specs.Triples.{inRange, sameTriple}
 use Rattle.carriage.specs.Runs.{Event, start, offer, inject, turn, Ran, phaseAfter, wasOffered, offeredNow, injectedNow}
+use Rattle.carriage.specs.Moments.{Since, SamePhase}
 use Rattle.carriage.specs.declared.members.Group.{Group}
 use Rattle.carriage.specs.declared.frames.Triple.{Triple}
 use Rattle.carriage.specs.declared.frames.Frame.{Frame}
@@ -46,19 +47,6 @@ module _ (g : Group) (len : ℕ) where
     newlyAccepted (offer y ∷ es) q x = newlyAccepted es q x
     newlyAccepted (inject f ∷ es) q x = newlyAccepted es q x
     newlyAccepted (turn ∷ es) q x = stepsNow (λ p y. newlyAccepted es p y) es q x && not (hasAccepted es q x)
-
--- the events before were followed by those of es, and no start came since
-pub data Since (before : List Event) : List Event → Type 0 where
-  now : Since before before
-  offered : {x : Triple} {es : List Event} → Since before es → Since before (offer x ∷ es)
-  injected : {f : Frame} {es : List Event} → Since before es → Since before (inject f ∷ es)
-  turned : {es : List Event} → Since before es → Since before (turn ∷ es)
-
--- the same, with no turn since either
-pub data SamePhase (before : List Event) : List Event → Type 0 where
-  now : SamePhase before before
-  offered : {x : Triple} {es : List Event} → SamePhase before es → SamePhase before (offer x ∷ es)
-  injected : {f : Frame} {es : List Event} → SamePhase before es → SamePhase before (inject f ∷ es)
 
 module _ (g : Group) (len : ℕ) where
   -- p accepted x one phase earlier: at the last turn, and not before it

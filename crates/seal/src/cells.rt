@@ -23,7 +23,7 @@ pub struct Cell {
 }
 
 impl Cell {
-    pub fn blank() -> Cell
+    pub(crate) fn blank() -> Cell
         ensures { λ r. ⌜ Blank r ⌝ }
     {
         Cell {
@@ -65,7 +65,7 @@ impl Cell {
     }
 }
 
-pub fn blank_cells() -> [Cell; SLOTS]
+pub(crate) fn blank_cells() -> [Cell; SLOTS]
     ensures { λ r. ⌜ ((k : ℕ) → k < 384 → Blank (getD r k blank)) × (length r ≡ 384) ⌝ }
 {
     let cell = Cell::blank();
@@ -73,7 +73,7 @@ pub fn blank_cells() -> [Cell; SLOTS]
 }
 
 // Turns every cell; a cell's number tells the round of its triple.
-pub fn turn_cells(cells: &mut [Cell; SLOTS], phase: u16, correct: ControllerSet)
+pub(crate) fn turn_cells(cells: &mut [Cell; SLOTS], phase: u16, correct: ControllerSet)
     requires { ⌜ phase < 100 ⌝ }
     ensures { λ _. ⌜ ((k : ℕ) → k < 384 → CellTurned phase (k / 64 + 1) correct (getD (now (cells .entry)) k blank) (getD (now (cells .exit)) k blank)) ⌝ }
 {

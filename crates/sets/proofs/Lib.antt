@@ -1,3 +1,4 @@
 pub mod Masks
 pub mod Counts
 pub mod Built
+pub mod Unions
