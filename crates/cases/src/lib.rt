@@ -1,5 +1,7 @@
 // Worked examples of what the libraries answer, and of every refusal, as tests.
 #[cfg(test)]
+mod echoes;
+#[cfg(test)]
 mod groups;
 #[cfg(test)]
 mod seals;
