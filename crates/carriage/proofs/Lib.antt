@@ -1,3 +1,7 @@
 pub mod Marked
 pub mod Held
 pub mod Slots
+pub mod Tables
+pub mod Props
+pub mod Allowed
+pub mod Quorums

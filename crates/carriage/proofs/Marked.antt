@@ -48,3 +48,6 @@ someone-correct g =
     let few : count (g .n) (marked g) < count (g .n) (λ k. true) = omega (arith, count-all (g .n), g .tolerant) in
     let w = someone (g .n) (λ k. true) (marked g) few in
     (w .0, w .1, correct-from g (w .0) (w .1) (w .3))
+
+pub correct-below : (g : Group) (k : ℕ) → correct g k ≡ true → k < 16
+correct-below g k e = let few : g .n ≤ 16 = g .few in omega (arith, ltb-true k (g .n) (and-parts (ltb k (g .n)) _ e .0))

@@ -3,3 +3,4 @@ pub mod Groups
 pub mod Triples
 pub mod Model
 pub mod Runs
+pub mod Moments

@@ -37,19 +37,23 @@ endPhase g = 2 * g .t + 3
 abbrev pub afresh : Model → Model
 afresh m = record { group = m .group; len = m .len; phase = 1; offered = λ x. false; accepted = λ q x. false }
 
--- Offer: a triple of a correct origin, in the first phase of its round
+-- Offer: a triple in range, of a correct origin, in the first phase of its round
+abbrev pub offerCause : Group → (len phase : ℕ) → Triple → Option CarriageFault
+offerCause g len phase x = cond (inRange g len x) (cond (correct g (x .origin) && eqb (phase + 1) (2 * x .round)) None (Some Offer)) (Some Range)
+
 abbrev pub offerFault : Model → Triple → Option CarriageFault
-offerFault m x = cond (knows m x) (cond (isCorrect m (x .origin) && eqb (m .phase + 1) (2 * x .round)) None (Some Offer)) (Some Range)
+offerFault m x = offerCause (m .group) (m .len) (m .phase) x
 
 abbrev pub afterOffer : Model → Triple → Model
 afterOffer m x = record { group = m .group; len = m .len; phase = m .phase; offered = λ y. sameTriple x y || m .offered y; accepted = m .accepted }
 
--- Inject: `letter` and `seal` say whether the carriage's own rules take the frame's letter and its seal
+-- Inject: from a marked controller to a correct one, then by what the carriage finds in the frame
+abbrev pub frameCause : Group → Frame → Option CarriageFault → Option CarriageFault
+frameCause g f found = cond (marked g (f .from)) (cond (correct g (f .to)) found (Some NotCorrect)) (Some From)
+
+-- `letter` and `seal` say whether the carriage's own rules take the frame's letter and its seal
 abbrev pub injectFault : (letter seal : Bool) → Model → Frame → Option CarriageFault
-injectFault letter seal m f =
-    cond (marked (m .group) (f .from))
-    (cond (isCorrect m (f .to)) (cond letter (cond (knows m (f .triple)) (cond seal None (Some Seal)) (Some Range)) (Some Letter)) (Some NotCorrect))
-    (Some From)
+injectFault letter seal m f = frameCause (m .group) f (cond letter (cond (knows m (f .triple)) (cond seal None (Some Seal)) (Some Range)) (Some Letter))
 
 -- Turn: one phase more, nothing accepted is lost, and what one correct controller had accepted all have accepted
 abbrev pub turnFault : Model → Option CarriageFault
@@ -63,9 +67,12 @@ pub record Turned (m n : Model) : Type 0 where
   pub grows : (q : ℕ) (x : Triple) → m .accepted q x ≡ true → n .accepted q x ≡ true
   pub relay : (q r : ℕ) (x : Triple) → m .accepted q x ≡ true → isCorrect m r ≡ true → n .accepted r x ≡ true
 
--- Held: whether a correct controller has accepted a triple
+-- Held: whether a correct controller has accepted a triple in range
+abbrev pub readAnswer : Group → (len q : ℕ) → Triple → Bool → Result Bool CarriageFault
+readAnswer g len q x known = cond (correct g q) (cond (inRange g len x) (Ok known) (Err Range)) (Err NotCorrect)
+
 abbrev pub heldAnswer : Model → ℕ → Triple → Result Bool CarriageFault
-heldAnswer m q x = cond (isCorrect m q) (cond (knows m x) (Ok (m .accepted q x)) (Err Range)) (Err NotCorrect)
+heldAnswer m q x = readAnswer (m .group) (m .len) q x (m .accepted q x)
 
 -- What holds of every carriage at every moment
 pub record Lawful (m : Model) : Type 0 where

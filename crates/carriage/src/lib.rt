@@ -6,6 +6,9 @@ mod frames;
 mod meaning;
 mod members;
 
+pub use checks::check_ends;
+pub use checks::check_offer;
+pub use checks::check_read;
 pub use checks::relay_holds;
 pub use faults::CarriageFault;
 pub use faults::CarriageFaultDebug;

@@ -8,7 +8,7 @@ use lib.Dec.{eqb}
 use lib.Count.{ones, ones-step, ones-le}
 use lib.Pow.{pow-add}
 use Rattle.std.proofs.shelf.Bits.{shr-shr}
-use Rattle.std.proofs.shelf.Tests.{cases-order, cases-lt, true≢false}
+use Rattle.std.proofs.shelf.Tests.{cases-order, cases-lt, cases-bool, both-ways, true≢false, not-true, eqb-true, eqb-false}
 use Rattle.std.proofs.shelf.Ways.{tells}
 use Rattle.sets.specs.Sets.{bit, count}
 
@@ -121,3 +121,15 @@ count-wider m (suc n) p h = ⊎-elim (λ l. step (p n) (count-wider m n p (omega
     step : (b : Bool) → count m p ≤ count n p → count m p ≤ cond b 1 0 + count n p
     step true le = omega arith
     step false le = omega arith
+
+-- where somebody passes, the count is not 0
+pub someone-in : (n : ℕ) (p : ℕ → Bool) (k : ℕ) → k < n → p k ≡ true → not (eqb (count n p) 0) ≡ true
+someone-in n p k l e = ⊎-elim (λ z. absurd (both-ways (p k) (count-zero n p (eqb-true (count n p) 0 z) k l) e)) (λ f. ap not f) (cases-bool (eqb (count n p) 0))
+
+-- where the count is not 0, somebody passes
+pub in-someone : (n : ℕ) (p : ℕ → Bool) → not (eqb (count n p) 0) ≡ true → (k : ℕ) × (k < n) × (p k ≡ true)
+in-someone n p e =
+    let none : count n (λ k. false) ≡ 0 = count-empty n (λ k. false) (λ k l. refl) in
+    let some : (count n p ≡ 0) → ⊥ = eqb-false (count n p) 0 (not-true _ e) in
+    let w = someone n p (λ k. false) (omega arith) in
+    (w .0, w .1, w .2)

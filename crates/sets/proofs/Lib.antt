@@ -1,3 +1,5 @@
 pub mod Masks
 pub mod Counts
 pub mod Strict
+pub mod Built
+pub mod Unions

@@ -54,6 +54,14 @@ impl ControllerSet {
         }
     }
 
+    pub fn intersection(self, other: ControllerSet) -> ControllerSet
+        ensures { λ r. ⌜ ((k : ℕ) → has r k ≡ (has self k && has other k)) ⌝ }
+    {
+        ControllerSet {
+            bits: self.bits & other.bits,
+        }
+    }
+
     // The members of this set that `other` lacks.
     pub fn without(self, other: ControllerSet) -> ControllerSet
         ensures { λ r. ⌜ ((k : ℕ) → has r k ≡ (has self k && not (has other k))) ⌝ }

@@ -23,12 +23,12 @@ impl Layer {
         ensures { λ r. ⌜ now r ≡ layerWord (now (self .entry)) ⌝ }
     {
         match self {
-            Layer::Text => "text",
-            Layer::Value => "value",
-            Layer::Group => "group",
-            Layer::List => "list",
-            Layer::Bench => "bench",
-            Layer::Carriage => "carriage",
+            Self::Text => "text",
+            Self::Value => "value",
+            Self::Group => "group",
+            Self::List => "list",
+            Self::Bench => "bench",
+            Self::Carriage => "carriage",
         }
     }
 }
@@ -69,7 +69,9 @@ pub impl Fault for ValueFault as ValueFaultNumber {
     ghost layered = { valueLayer };
 
     fn number(&self) -> u16 {
-        3
+        match self {
+            ValueFault::Block | ValueFault::Pulses | ValueFault::Count | ValueFault::Mark => 3,
+        }
     }
 
     fn layer(&self) -> Layer {
