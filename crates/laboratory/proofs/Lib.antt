@@ -1,1 +1,3 @@
-
+pub mod Stretches
+pub mod Agreeing
+pub mod Retired

@@ -36,3 +36,33 @@ fn turn_all<C: Carriage>(bench: &mut Bench<C>) -> Result<(), BenchFault>
     }
     Ok(())
 }
+
+// Begins the shot, injects its frames and turns all its phases.
+pub(crate) fn play<C: Carriage, K: Kind>(
+    bench: &mut Bench<C>,
+    list: &[K],
+    order: &Order<'_, K>,
+) -> Result<(), BenchFault>
+    ensures { λ r. ⌜ made r (λ _. Led C·Carriage (rulesOf (K·Kind .same) (K·Kind .charge) (now (list .entry))) (viewOf (now (bench .entry))) (viewOf (now (bench .exit)))) ⌝ }
+{
+    bench.begin(list, order.sender, order.value)?;
+    inject_all(bench, order.frames);
+    turn_all(bench)?;
+    Ok(())
+}
+
+// Plays a whole shot and closes it; the answer is what controller q showed just before the close.
+pub(crate) fn play_and_close<C: Carriage, K: Kind>(
+    bench: &mut Bench<C>,
+    list: &[K],
+    order: &Order<'_, K>,
+    q: u16,
+) -> Result<Verdict, BenchFault>
+    ensures { λ r. ⌜ made r (λ d. Closed C·Carriage (rulesOf (K·Kind .same) (K·Kind .charge) (now (list .entry))) q d (viewOf (now (bench .entry))) (viewOf (now (bench .exit)))) ⌝ }
+{
+    play(bench, list, order)?;
+    let verdict = bench.verdict(q)?;
+    let shot = bench.closed() + 1;
+    bench.close(list, shot)?;
+    Ok(verdict)
+}

@@ -1,7 +1,19 @@
-// Two correct controllers read the same.
+// What correct controllers read is the same, and a block is out of the pool at the third shot that charges it.
+ghost use Rattle.agreement.specs.Views.{rulesOf};
+ghost use Rattle.bench.specs.Views.{viewOf};
+ghost use Rattle.laboratory.specs.Retiring.{PassedOnce, Retires};
+ghost use Rattle.std.specs.Vec.{made};
+ghost use mathlib.Core.Path.{_≡_};
+use crate::passes::Order;
+use crate::passes::play;
+use crate::passes::play_and_close;
+use agreement::BenchFault;
 use agreement::Verdict;
 use agreement::VerdictDebug;
 use agreement::VerdictPartialEq;
+use bench::Bench;
+use carriage::Carriage;
+use values::Kind;
 
 // What two controllers showed of one shot: their verdicts before its close, and their tallies of one block after it.
 #[derive(Clone, Copy, Debug, PartialEq, Eq)]
@@ -10,4 +22,88 @@ pub struct Readings {
     pub second: Verdict,
     pub first_tally: u16,
     pub second_tally: u16,
+}
+
+// Runs one shot on a bench of its own, and reads controllers q and r: what they show is equal.
+pub fn two_readings<C: Carriage + Drop, K: Kind>(
+    carriage: C,
+    list: &[K],
+    order: &Order<'_, K>,
+    q: u16,
+    r: u16,
+    block: u16,
+) -> Result<Readings, BenchFault>
+    ensures { λ a. ⌜ made a (λ x. (x .first ≡ x .second) × (x .«first_tally» ≡ x .«second_tally»)) ⌝ }
+{
+    let mut bench = match Bench::open(carriage, list) {
+        Ok(bench) => bench,
+        Err(unopened) => return Err(unopened.fault),
+    };
+    play(&mut bench, list, order)?;
+    let first = bench.verdict(q)?;
+    let second = bench.verdict(r)?;
+    bench.close(list, 1)?;
+    let first_tally = bench.tally(q, block)?;
+    let second_tally = bench.tally(r, block)?;
+    Ok(Readings {
+        first,
+        second,
+        first_tally,
+        second_tally,
+    })
+}
+
+// What controller q showed of a shot, and its tally of one block after the close.
+#[derive(Clone, Copy, Debug, PartialEq, Eq)]
+pub struct Passage {
+    pub verdict: Verdict,
+    pub tally: u16,
+}
+
+// Plays and closes one shot of the bench.
+fn pass_once<C: Carriage, K: Kind>(
+    bench: &mut Bench<C>,
+    list: &[K],
+    order: &Order<'_, K>,
+    q: u16,
+    block: u16,
+) -> Result<Passage, BenchFault>
+    ensures { λ r. ⌜ made r (λ p. PassedOnce C·Carriage (rulesOf (K·Kind .same) (K·Kind .charge) (now (list .entry))) q block p (viewOf (now (bench .entry))) (viewOf (now (bench .exit)))) ⌝ }
+{
+    let verdict = play_and_close(bench, list, order, q)?;
+    let tally = bench.tally(q, block)?;
+    Ok(Passage { verdict, tally })
+}
+
+// Three passages, in their order.
+#[derive(Clone, Copy, Debug, PartialEq, Eq)]
+pub struct Passages {
+    pub first: Passage,
+    pub second: Passage,
+    pub third: Passage,
+}
+
+// Runs three shots on a bench of its own. A tally counts the shots whose verdict charged the block, up to 3: where all
+// three charge it, it is out of the pool after the third and not after the second.
+pub fn three_shots<C: Carriage + Drop, K: Kind>(
+    carriage: C,
+    list: &[K],
+    order: &Order<'_, K>,
+    q: u16,
+    block: u16,
+) -> Result<Passages, BenchFault>
+    ensures { λ a. ⌜ made a (λ x. Retires (rulesOf (K·Kind .same) (K·Kind .charge) (now (list .entry))) block x) ⌝ }
+{
+    let mut bench = match Bench::open(carriage, list) {
+        Ok(bench) => bench,
+        Err(unopened) => return Err(unopened.fault),
+    };
+    let first = pass_once(&mut bench, list, order, q, block)?;
+    let second = pass_once(&mut bench, list, order, q, block)?;
+    let third = pass_once(&mut bench, list, order, q, block)?;
+    Ok(Passages {
+        first,
+        second,
+        third,
+    })
 }
