@@ -1,8 +1,7 @@
 -- The same calls have the same answers, over a carriage whose account leaves nothing open. Assumes nothing.
 use mathlib.Core.Path.{_≡_, refl, sym, ap, _∙_, subst}
-use mathlib.Core.Bool.{Bool, true, false, _&&_, cond}
-use mathlib.Core.List.{List, [], _∷_}
-use mathlib.Core.Logic.{_⊎_, inl, inr, ⊎-elim}
+use mathlib.Core.Bool.{Bool, _&&_, cond}
+use mathlib.Core.List.{List, _∷_}
 use Prim.Native.Nat.{ℕ, _+_}
 use native.Mathlib.Omega.{arith}
 use Rattle.std.specs.Options.{isSome, mapped}
@@ -15,12 +14,11 @@ use Rattle.carriage.specs.declared.frames.Frame.{Frame}
 use Rattle.carriage.specs.declared.frames.Triple.{Triple}
 use Rattle.carriage.specs.declared.meaning.Carriage.{Ghosts as Account}
 use Rattle.agreement.specs.Views.{View, Rules, modelOf, momentAt, fits}
-use Rattle.agreement.specs.Extraction.{verdictOf, setsAfter, offersAfter, firstOffers}
-use Rattle.agreement.specs.Refusals.{first, answerBy, lengthCause, shotsFault, senderFault, valueFault, given, momentFault, beginFault, injectRefusal, turnRefusal, closeFault, readerFault, verdictAnswer, tallyAnswer}
-use Rattle.agreement.specs.Steps.{Offered, none as no-offer, more as offer-more, Begun, Injected, TurnTaken, charges, raised, talliesAfter, afterClose, Call, begin, inject, turn, close, Event, taken, refused, faultOf, Does, Step}
+use Rattle.agreement.specs.Extraction.{verdictOf, setsAfter, offersAfter}
+use Rattle.agreement.specs.Refusals.{first, answerBy, lengthCause, shotsFault, senderFault, valueFault, given, momentFault, verdictAnswer, tallyAnswer}
+use Rattle.agreement.specs.Steps.{Offered, none as no-offer, more as offer-more, Begun, Injected, TurnTaken, charges, raised, afterClose, Call, begin, inject, turn, close, Event, taken, refused, faultOf, Does, Step}
 use Rattle.agreement.specs.Runs.{Run, none, more}
 use Rattle.agreement.specs.Repeats.{Settled, Alike, callOf, callsOf, answersOf, Same, AllRepeat}
-use Rattle.agreement.specs.declared.faults.BenchFault.{BenchFault}
 use Rattle.agreement.specs.declared.faults.BenchFault.the-variants.{Moment as WrongMoment, Carriage, Value, List as ListCause}
 use Rattle.agreement.specs.declared.moments.Act.the-variants.{Begin, Inject, Turn, Verdict, Close}
 

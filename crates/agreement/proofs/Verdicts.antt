@@ -10,7 +10,6 @@ use Rattle.sets.specs.Sets.{count}
 use Rattle.sets.proofs.Counts.{count-same, count-empty, someone}
 use Rattle.sets.proofs.Strict.{count-some, count-strict}
 use Rattle.agreement.specs.Extraction.{highest, verdictOf, Tells}
-use Rattle.agreement.specs.declared.moments.Verdict.{Verdict}
 use Rattle.agreement.specs.declared.moments.Verdict.the-variants.{Place, SenderFaulty}
 
 pub bool-same : (a b : Bool) → (a ≡ true → b ≡ true) → (b ≡ true → a ≡ true) → a ≡ b

@@ -1,7 +1,6 @@
 -- Runs that repeat: where a carriage's own account leaves nothing open, the same calls have the same answers. Assumes nothing.
 use mathlib.Core.List.{List, [], _∷_}
 use mathlib.Core.Path.{_≡_}
-use mathlib.Core.Bool.{Bool}
 use Prim.Native.Nat.{ℕ}
 use Rattle.std.specs.declared.option.Option.{Option}
 use Rattle.carriage.specs.declared.frames.Frame.{Frame}

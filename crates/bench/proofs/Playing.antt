@@ -1,30 +1,28 @@
 -- A shot through all its phases as a run of the bench, and what the law then says of two controllers. Assumes nothing.
-use mathlib.Core.Path.{_≡_, refl, sym, ap, _∙_, subst}
-use mathlib.Core.Bool.{Bool, true, false, cond}
+use mathlib.Core.Path.{_≡_, refl, sym, ap, _∙_}
+use mathlib.Core.Bool.{true}
 use mathlib.Core.List.{List, [], _∷_}
-use Prim.Native.Nat.{ℕ, suc, _+_, _*_, _<_, min}
+use Prim.Native.Nat.{ℕ, suc, _+_, _*_, _<_}
 use native.Mathlib.Omega.{arith}
-use Rattle.std.specs.Options.{mapped, orOther}
+use Rattle.std.specs.Options.{mapped}
 use Rattle.std.specs.declared.option.Option.{Option}
 use Rattle.std.specs.declared.option.Option.the-variants.{None, Some}
 use Rattle.std.specs.declared.result.Result.{Result}
-use Rattle.std.specs.declared.result.Result.the-variants.{Ok, Err}
+use Rattle.std.specs.declared.result.Result.the-variants.{Ok}
 use Rattle.std.proofs.shelf.Tests.{ltb-true}
-use Rattle.values.specs.Ranges.{blockFault}
 use Rattle.carriage.specs.Groups.{correct}
-use Rattle.carriage.specs.Model.{isCorrect, afresh}
+use Rattle.carriage.specs.Model.{isCorrect}
 use Rattle.carriage.specs.declared.meaning.Carriage.{Ghosts as Account}
-use Rattle.agreement.specs.Extraction.{firstOffers}
 use Rattle.agreement.specs.Law.{AllAgree, AllShow}
-use Rattle.agreement.specs.Refusals.{given, answerBy, beginFault, closeFault, turnRefusal, verdictAnswer, tallyAnswer}
-use Rattle.agreement.specs.Runs.{Run, none as ran-none, more as ran-more, Shot, turnedOn, shotOf}
-use Rattle.agreement.specs.Steps.{Begun, TurnTaken, afterClose, Event, taken, begin, turn, close}
+use Rattle.agreement.specs.Refusals.{given, answerBy, beginFault, closeFault, verdictAnswer, tallyAnswer}
+use Rattle.agreement.specs.Runs.{Run, none as ran-none, more as ran-more, turnedOn, shotOf}
+use Rattle.agreement.specs.Steps.{Begun, afterClose, Event, taken, begin, turn, close}
 use Rattle.agreement.specs.Views.{View, Rules, modelOf}
 use Rattle.agreement.specs.declared.faults.BenchFault.{BenchFault}
 use Rattle.agreement.specs.declared.moments.Verdict.{Verdict}
 use Rattle.agreement.proofs.Agreement.{Keeps}
 use Rattle.agreement.proofs.Beginning.{first-none, passed, mapped-none}
-use Rattle.agreement.proofs.Offering.{OnlyOffers, chain-offers}
+use Rattle.agreement.proofs.Offering.{chain-offers}
 use Rattle.bench.specs.Checks.{TookTurns, none, more, TookShot}
 
 module _ {C K : Type 0} (account : Account C) (rules : Rules K) where

@@ -1,5 +1,4 @@
 // The calls that read a bench.
-ghost use Prim.Native.Nat.{ℕ};
 ghost use Rattle.agreement.specs.Extraction.{Tells};
 ghost use Rattle.agreement.specs.Refusals.{verdictAnswer, tallyAnswer};
 ghost use Rattle.bench.specs.Views.{viewOf, senderOf};
