@@ -1,18 +1,17 @@
 -- The law of agreement, for every carriage that keeps its meaning: by induction over the run. Assumes nothing.
 use mathlib.Core.Path.{_≡_, refl, sym, ap, _∙_, subst}
-use mathlib.Core.Bool.{Bool, true, false, not, _&&_, _||_, cond}
+use mathlib.Core.Bool.{Bool, true, false, _&&_, cond}
 use mathlib.Core.List.{List, [], _∷_}
-use mathlib.Core.Logic.{_⊎_, inl, inr, ⊎-elim}
-use Prim.Native.Nat.{ℕ, zero, suc, _+_, _*_, _≤_, _<_, min}
+use mathlib.Core.Logic.{⊎-elim}
+use Prim.Native.Nat.{ℕ, _+_, _*_, _<_, min}
 use native.Mathlib.Omega.{arith}
-use lib.Dec.{leb, ltb, eqb}
+use lib.Dec.{ltb, eqb}
 use lib.ListN.{length}
 use Rattle.std.specs.Options.{mapped}
 use Rattle.std.specs.declared.option.Option.{Option}
 use Rattle.std.specs.declared.option.Option.the-variants.{None, Some}
-use Rattle.std.specs.declared.result.Result.{Result}
-use Rattle.std.specs.declared.result.Result.the-variants.{Ok, Err}
-use Rattle.std.proofs.shelf.Tests.{cond-true, cond-false, both-ways, eq-eqb, eqb-true, cases-bool, lt-ltb, ltb-true, ltb-false}
+use Rattle.std.specs.declared.result.Result.the-variants.{Ok}
+use Rattle.std.proofs.shelf.Tests.{cond-true, both-ways, eq-eqb, eqb-true, cases-bool, lt-ltb, ltb-true, ltb-false}
 use Rattle.values.specs.declared.faults.ValueFault.the-variants.{Block}
 use Rattle.carriage.specs.Groups.{correct}
 use Rattle.carriage.specs.Model.{Model, Lawful, Turned, isCorrect, afresh, afterOffer, endPhase}
@@ -22,19 +21,15 @@ use Rattle.carriage.specs.declared.frames.Triple.{Triple}
 use Rattle.carriage.specs.declared.meaning.Carriage.{Ghosts as Account}
 use Rattle.carriage.proofs.Marked.{someone-correct}
 use Rattle.agreement.specs.Views.{View, Rules, modelOf, momentAt, momentOf, fits}
-use Rattle.agreement.specs.Extraction.{verdictOf, firstOffers, setsAfter, offersAfter}
-use Rattle.agreement.specs.Refusals.{given, first, answerBy, momentFault, readerFault, beginFault, closeFault, verdictAt, verdictAnswer, tallyAnswer}
-use Rattle.agreement.specs.Steps.{Begun, Injected, TurnTaken, talliesAfter, afterClose, charges, raised, Event, taken, refused, Call, begin, inject, turn, close, Step}
+use Rattle.agreement.specs.Extraction.{firstOffers, offersAfter}
+use Rattle.agreement.specs.Refusals.{given, first, answerBy, readerFault, beginFault, closeFault, verdictAt, verdictAnswer, tallyAnswer}
+use Rattle.agreement.specs.Steps.{Begun, Injected, TurnTaken, afterClose, charges, raised, Event, taken, refused, begin, inject, turn, close, Step}
 use Rattle.agreement.specs.Runs.{Run, none as ran-none, more as ran-more, Shot, turnedOn, shotOf, noteClose, closings}
 use Rattle.agreement.specs.Law.{toldBy, times, AllShow, Shown, none as shown-none, more as shown-more, Agreed, AllAgree, opened}
-use Rattle.agreement.specs.declared.faults.BenchFault.{BenchFault}
 use Rattle.agreement.specs.declared.faults.BenchFault.the-variants.{Moment as WrongMoment, Value, Carriage}
-use Rattle.agreement.specs.declared.moments.Act.{Act}
-use Rattle.agreement.specs.declared.moments.Act.the-variants.{Begin, Verdict as AskVerdict, Close}
-use Rattle.agreement.specs.declared.moments.Moment.{Moment}
-use Rattle.agreement.specs.declared.moments.Moment.the-variants.{Idle, Running, Ended}
+use Rattle.agreement.specs.declared.moments.Act.the-variants.{Verdict as AskVerdict, Close}
+use Rattle.agreement.specs.declared.moments.Moment.the-variants.{Running, Ended}
 use Rattle.agreement.specs.declared.moments.Verdict.{Verdict}
-use Rattle.agreement.specs.declared.moments.Verdict.the-variants.{Place, SenderFaulty}
 use Rattle.agreement.proofs.Offering.{OnlyOffers, chain-offers}
 use Rattle.agreement.proofs.Keeping.{Kept, turn-keeps}
 use Rattle.agreement.proofs.Verdicts.{bool-same, verdict-same, verdict-one, verdict-none}

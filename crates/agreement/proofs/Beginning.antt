@@ -1,27 +1,26 @@
 -- What a taken begin has found, and that a beginning shot keeps what every running shot does. Assumes nothing.
-use mathlib.Core.Path.{_≡_, refl, sym, ap, _∙_, subst}
-use mathlib.Core.Bool.{Bool, true, false, not, _&&_, _||_, cond}
+use mathlib.Core.Path.{_≡_, refl, sym, ap, _∙_}
+use mathlib.Core.Bool.{Bool, true, false, _&&_, cond}
 use mathlib.Core.List.{List, [], _∷_}
-use mathlib.Core.Logic.{_⊎_, inl, inr, ⊎-elim}
-use Prim.Native.Nat.{ℕ, zero, suc, _+_, _*_, _≤_, _<_}
+use mathlib.Core.Logic.{inl, ⊎-elim}
+use Prim.Native.Nat.{ℕ, suc, _<_}
 use native.Mathlib.Omega.{arith}
-use lib.Dec.{leb, ltb, eqb}
+use lib.Dec.{eqb}
 use lib.ListN.{length}
 use Rattle.std.specs.Options.{isSome, mapped, orOther}
 use Rattle.std.specs.declared.option.Option.{Option}
 use Rattle.std.specs.declared.option.Option.the-variants.{None, Some}
-use Rattle.std.proofs.shelf.Tests.{or-cases, or-left, and-parts, and-from, eqb-true, eq-eqb, ltb-true, both-ways, true≢false}
+use Rattle.std.proofs.shelf.Tests.{or-cases, or-left, and-parts, and-from, eqb-true, eq-eqb, ltb-true, both-ways}
 use Rattle.values.specs.Lists.{placeOf}
 use Rattle.carriage.specs.Groups.{marked, correct}
 use Rattle.carriage.specs.Triples.{sameTriple}
-use Rattle.carriage.specs.Model.{Model, Lawful, isCorrect, afresh}
+use Rattle.carriage.specs.Model.{Model, isCorrect, afresh}
 use Rattle.carriage.specs.declared.meaning.Carriage.{Ghosts as Account}
 use Rattle.carriage.proofs.Marked.{correct-from}
-use Rattle.carriage.proofs.Slots.{same-is, same-refl}
+use Rattle.carriage.proofs.Slots.{same-is}
 use Rattle.agreement.specs.Views.{View, Rules, modelOf, momentOf, fits}
 use Rattle.agreement.specs.Extraction.{triple, firstSets, firstOffers}
-use Rattle.agreement.specs.Refusals.{given, momentFault, beginFault, lengthCause, unlisted}
-use Rattle.agreement.specs.declared.moments.Act.{Act}
+use Rattle.agreement.specs.Refusals.{given, beginFault, unlisted}
 use Rattle.agreement.specs.declared.moments.Act.the-variants.{Begin}
 use Rattle.agreement.proofs.Offering.{OnlyOffers}
 use Rattle.agreement.proofs.Keeping.{Kept}

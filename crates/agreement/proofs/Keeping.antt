@@ -1,25 +1,24 @@
 -- What holds of a running shot at every moment, and that a turn keeps it. Assumes nothing.
-use mathlib.Core.Path.{_≡_, refl, sym, ap, _∙_, subst}
-use mathlib.Core.Bool.{Bool, true, false, not, _&&_, _||_, cond}
-use mathlib.Core.List.{List}
+use mathlib.Core.Path.{_≡_, refl, sym, ap, _∙_}
+use mathlib.Core.Bool.{Bool, true, false, not, _&&_}
 use mathlib.Core.Logic.{_⊎_, inl, inr, ⊎-elim}
-use Prim.Native.Nat.{ℕ, zero, suc, _+_, _*_, _%_, _/_, _≤_, _<_}
+use Prim.Native.Nat.{ℕ, _+_, _*_, _%_, _/_, _≤_, _<_}
 use native.Mathlib.Omega.{arith}
-use lib.Dec.{leb, ltb, eqb}
+use lib.Dec.{ltb, eqb}
 use Rattle.std.specs.declared.option.Option.{Option}
-use Rattle.std.specs.declared.option.Option.the-variants.{None, Some}
+use Rattle.std.specs.declared.option.Option.the-variants.{Some}
 use Rattle.std.proofs.shelf.Tests.{or-cases, or-left, or-right, cases-eq, cases-lt, both-ways, and-parts, and-from, eqb-true, eq-eqb, ne-eqb, leb-true, le-leb, ltb-true, cases-bool, not-true, not-from-false}
 use Rattle.sets.specs.Sets.{count}
 use Rattle.sets.proofs.Counts.{count-same, count-mono, count-wider, someone}
 use Rattle.sets.proofs.Strict.{count-strict, count-some}
 use Rattle.carriage.specs.Groups.{marked, correct}
-use Rattle.carriage.specs.Model.{Model, Lawful, Turned, isCorrect, knows, endPhase}
+use Rattle.carriage.specs.Model.{Model, Lawful, Turned, isCorrect, endPhase}
 use Rattle.carriage.specs.declared.frames.Triple.{Triple}
 use Rattle.carriage.proofs.Slots.{range-fits}
 use Rattle.carriage.proofs.Marked.{correct-from}
 use Rattle.agreement.specs.Extraction.{triple, vouched, extracts, setsAfter, isNew, offersAfter}
 use Rattle.agreement.proofs.Vouching.{vouched-in, vouched-by}
-use Rattle.agreement.proofs.Offering.{OnlyOffers, among, offers-tell, offers-have}
+use Rattle.agreement.proofs.Offering.{OnlyOffers, offers-tell, offers-have}
 
 -- p vouched for v in a round up to i, as q heard it, and is not q itself
 abbrev pub others : Model → (q v i p : ℕ) → Bool

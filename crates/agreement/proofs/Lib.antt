@@ -4,3 +4,4 @@ pub mod Keeping
 pub mod Verdicts
 pub mod Beginning
 pub mod Agreement
+pub mod Repeating

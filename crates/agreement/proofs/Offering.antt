@@ -1,12 +1,12 @@
 -- Offers made one after the other, and what they add to the offered triples. Assumes nothing.
 use mathlib.Core.Path.{_≡_, refl, sym, ap, _∙_, subst}
-use mathlib.Core.Bool.{Bool, true, false, not, _&&_, _||_, cond}
+use mathlib.Core.Bool.{Bool, true, false, _&&_, _||_, cond}
 use mathlib.Core.List.{List, [], _∷_, _++_}
-use mathlib.Core.Logic.{_⊎_, inl, inr, ⊎-elim}
+use mathlib.Core.Logic.{⊎-elim}
 use Prim.Native.Nat.{ℕ, zero, suc, _+_, _%_, _/_, _≤_, _<_}
 use native.Mathlib.Omega.{arith}
 use lib.Dec.{leb, eqb}
-use Rattle.std.proofs.shelf.Tests.{or-cases, or-left, or-right, cases-eq, cases-lt, both-ways, and-parts, and-from, eqb-true, eq-eqb, leb-true, le-leb, cases-bool, cond-true, cond-false}
+use Rattle.std.proofs.shelf.Tests.{or-cases, or-left, or-right, cases-eq, both-ways, and-parts, and-from, eqb-true, eq-eqb, leb-true, le-leb}
 use Rattle.carriage.specs.Triples.{sameTriple}
 use Rattle.carriage.specs.Model.{Model, afterOffer}
 use Rattle.carriage.specs.declared.frames.Triple.{Triple}

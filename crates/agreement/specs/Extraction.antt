@@ -1,7 +1,8 @@
 -- What correct controllers extract after a turn, what they offer then, and the verdict of a set. Assumes nothing.
-use Prim.Native.Nat.{ℕ, zero, suc, _+_, _/_, _%_}
+use Prim.Native.Nat.{ℕ, zero, suc, _+_, _/_, _%_, _<_}
 use mathlib.Core.Bool.{Bool, true, false, not, _&&_, _||_, cond}
 use mathlib.Core.List.{List, [], _∷_, _++_}
+use mathlib.Core.Path.{_≡_}
 use lib.Dec.{leb, eqb}
 use Rattle.std.specs.declared.option.Option.{Option}
 use Rattle.std.specs.declared.option.Option.the-variants.{None, Some}
@@ -68,3 +69,8 @@ highest (suc n) p = cond (p n) n (highest n p)
 -- the verdict of a set of places below len: the one place in it, or sender faulty if there is none or several
 abbrev pub verdictOf : ℕ → (ℕ → Bool) → Verdict
 verdictOf len set = cond (eqb (count len set) 1) (Place (highest len set)) SenderFaulty
+
+-- the same in other words: the place is in the set and no other is; or every place in the set has another beside it
+abbrev pub Tells : ℕ → (ℕ → Bool) → Verdict → Type 0
+Tells len set (Place p) = (p < len) × (set p ≡ true) × ((k : ℕ) → k < len → set k ≡ true → k ≡ p)
+Tells len set SenderFaulty = (p : ℕ) → p < len → set p ≡ true → (k : ℕ) × (k < len) × (set k ≡ true) × (k ≡ p → ⊥)

@@ -5,3 +5,4 @@ pub mod Refusals
 pub mod Steps
 pub mod Runs
 pub mod Law
+pub mod Repeats

@@ -1,14 +1,12 @@
 -- Runs of a bench, and what can be read off the list of its calls alone. Assumes nothing.
-use Prim.Native.Nat.{ℕ, suc, _+_, _*_}
-use mathlib.Core.Bool.{Bool, cond}
+use Prim.Native.Nat.{ℕ, suc}
 use mathlib.Core.List.{List, [], _∷_}
-use lib.Dec.{eqb}
 use Rattle.std.specs.Options.{mapped}
 use Rattle.std.specs.declared.option.Option.{Option}
 use Rattle.std.specs.declared.option.Option.the-variants.{None, Some}
 use Rattle.carriage.specs.declared.meaning.Carriage.{Ghosts as Account}
 use Rattle.agreement.specs.Views.{View, Rules}
-use Rattle.agreement.specs.Steps.{Call, begin, inject, turn, close, Event, taken, refused, Step}
+use Rattle.agreement.specs.Steps.{begin, inject, turn, close, Event, taken, refused, Step}
 
 -- the view u becomes w by the events, of which the newest comes first
 pub data Run {C K : Type 0} (account : Account C) (rules : Rules K) (u : View C) : List (Event K) → View C → Type 0 where

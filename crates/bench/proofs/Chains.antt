@@ -1,16 +1,16 @@
 -- Offers that cannot be refused, one after the other. Assumes nothing.
-use mathlib.Core.Path.{_≡_, refl, sym, ap, _∙_, subst}
+use mathlib.Core.Path.{_≡_, sym, ap, _∙_, subst}
 use mathlib.Core.Bool.{Bool, true, false, _&&_, cond}
 use mathlib.Core.List.{List, [], _∷_, _++_}
-use Prim.Native.Nat.{ℕ, zero, suc, _+_, _*_, _≤_, _<_}
+use Prim.Native.Nat.{ℕ, _+_, _*_, _≤_, _<_}
 use native.Mathlib.Omega.{arith}
 use native.Mathlib.Numerals.{add-one}
-use lib.Dec.{leb, ltb, eqb}
+use lib.Dec.{ltb, eqb}
 use Rattle.std.specs.declared.option.Option.{Option}
 use Rattle.std.specs.declared.option.Option.the-variants.{None, Some}
-use Rattle.std.proofs.shelf.Tests.{cond-true, and-from, and-parts, lt-ltb, le-leb, ltb-true, eq-eqb}
+use Rattle.std.proofs.shelf.Tests.{cond-true, and-from, and-parts, lt-ltb, le-leb, eq-eqb}
 use Rattle.carriage.specs.Groups.{correct}
-use Rattle.carriage.specs.Model.{Model, isCorrect, knows, offerFault, afresh, afterOffer}
+use Rattle.carriage.specs.Model.{Model, isCorrect, knows, offerFault, afterOffer}
 use Rattle.carriage.specs.declared.frames.Triple.{Triple}
 use Rattle.carriage.specs.declared.meaning.Carriage.{Ghosts as Account}
 use Rattle.agreement.specs.Extraction.{triple, placeOffers, groupOffers}

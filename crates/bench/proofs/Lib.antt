@@ -5,3 +5,4 @@ pub mod Charges
 pub mod Unions
 pub mod Refusing
 pub mod Turning
+pub mod Playing

@@ -1,15 +1,14 @@
 -- A turn: its moment, what it adds and offers in the two phases of a round; and a value that may be sent. Assumes nothing.
 use mathlib.Core.Path.{_≡_, refl, sym, ap, _∙_, fun-ext}
 use mathlib.Core.Bool.{Bool, true, false, not, _&&_, _||_, cond}
-use mathlib.Core.List.{List, []}
-use Prim.Native.Nat.{ℕ, _+_, _*_, _/_, _%_, _≤_, _<_}
+use mathlib.Core.List.{[]}
+use Prim.Native.Nat.{ℕ, _+_, _/_, _%_, _≤_, _<_}
 use native.Mathlib.Omega.{arith}
 use lib.Dec.{leb, eqb}
 use Rattle.std.specs.declared.option.Option.{Option}
 use Rattle.std.specs.declared.option.Option.the-variants.{None, Some}
-use Rattle.std.proofs.shelf.Tests.{both-ways, eqb-true, eqb-false, cond-false}
+use Rattle.std.proofs.shelf.Tests.{both-ways, eqb-true, cond-false}
 use Rattle.carriage.specs.Model.{Model, Lawful, Turned, isCorrect, endPhase, turnFault}
-use Rattle.carriage.specs.declared.frames.Triple.{Triple}
 use Rattle.agreement.specs.Extraction.{extracts, isNew, setsAfter, groupOffers, offersAfter}
 use Rattle.agreement.specs.Views.{momentAt, fits}
 use Rattle.agreement.specs.declared.moments.Act.the-variants.{Turn}

@@ -1,19 +1,17 @@
 -- Steps of the walks that find what is extracted after a round. Assumes nothing.
 use mathlib.Core.Path.{_≡_, refl, sym, ap, _∙_}
-use mathlib.Core.Bool.{Bool, true, false, not, _&&_, _||_, cond}
+use mathlib.Core.Bool.{Bool, true, false, not, _&&_, _||_}
 use mathlib.Core.Logic.{⊎-elim}
-use Prim.Native.Nat.{ℕ, zero, suc, _+_, _≤_, _<_}
+use Prim.Native.Nat.{ℕ, _+_, _≤_, _<_}
 use native.Mathlib.Omega.{arith}
 use native.Mathlib.Numerals.{add-one}
 use lib.Dec.{eqb, ltb}
-use Rattle.std.specs.declared.result.Result.{Result}
 use Rattle.std.specs.declared.result.Result.the-variants.{Ok, Err}
-use Rattle.std.proofs.shelf.Tests.{cases-bool, cases-lt, cases-eq, cond-true, cond-false, and-parts, ltb-true, lt-ltb, le-ltb, eq-eqb, ne-eqb, both-ways}
+use Rattle.std.proofs.shelf.Tests.{cases-bool, cases-lt, cases-eq, cond-true, and-parts, ltb-true, lt-ltb, le-ltb, eq-eqb, ne-eqb}
 use Rattle.std.proofs.shelf.Ways.{tells}
 use Rattle.carriage.specs.Model.{Model, Lawful, isCorrect, knows, heldAnswer}
 use Rattle.carriage.specs.declared.frames.Triple.{Triple}
 use Rattle.carriage.specs.declared.faults.CarriageFault.{CarriageFault}
-use Rattle.carriage.specs.declared.faults.CarriageFault.the-variants.{NotCorrect, Range}
 use Rattle.carriage.proofs.Slots.{range-fits}
 use Rattle.agreement.specs.Extraction.{triple, vouched, extracts, isNew}
 

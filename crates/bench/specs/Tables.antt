@@ -1,6 +1,6 @@
 -- What the tables of a bench say: who has extracted which place, and the tally of a block. Assumes nothing.
 use Prim.Native.Nat.{ℕ, _+_, _*_, _<_}
-use mathlib.Core.Bool.{Bool, true, false, _&&_}
+use mathlib.Core.Bool.{Bool, false, _&&_}
 use mathlib.Core.List.{[]}
 use lib.Dec.{ltb}
 use lib.ListN.{getD}

@@ -1,6 +1,7 @@
 // The bench: it runs shots over any carriage, which it knows by its contracts alone, and keeps every correct
 // controller's extracted set and register.
 mod charging;
+mod checks;
 mod moments;
 mod offers;
 mod places;
@@ -9,5 +10,7 @@ mod shots;
 mod state;
 mod tallies;
 
+pub use checks::tallies_agree;
+pub use checks::verdicts_agree;
 pub use state::Bench;
 pub use state::Unopened;

@@ -1,10 +1,9 @@
 // What a bench offers on its carriage. The carriage cannot refuse these offers.
-ghost use Prim.Native.Nat.{ℕ, _+_, _<_, _≤_};
+ghost use Prim.Native.Nat.{_+_, _≤_};
 ghost use Rattle.agreement.specs.Extraction.{placeOffers, groupOffers};
 ghost use Rattle.agreement.specs.Steps.{Offered};
 ghost use Rattle.bench.specs.Inner.{Startable, Started, Offerable, nextOffers};
 ghost use Rattle.bench.specs.Tables.{inSet};
-ghost use mathlib.Core.Path.{_≡_};
 use crate::places::Extracted;
 use carriage::Carriage;
 use carriage::Triple;

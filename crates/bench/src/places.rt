@@ -1,5 +1,5 @@
 // The extracted sets of all controllers: which places of the list each of them has extracted.
-ghost use Prim.Native.Nat.{ℕ, _<_, _≤_};
+ghost use Prim.Native.Nat.{ℕ, _<_};
 ghost use Rattle.agreement.specs.Extraction.{firstSets, verdictOf};
 ghost use Rattle.bench.specs.Tables.{inSet, Placed};
 ghost use lib.Dec.{eqb};

@@ -1,5 +1,5 @@
 // What correct controllers extract after a round, by what they hold. None of it asks who is marked.
-ghost use Prim.Native.Nat.{ℕ, _<_, _≤_};
+ghost use Prim.Native.Nat.{ℕ, _<_};
 ghost use Rattle.agreement.specs.Extraction.{vouched, origins, extracts, isNew};
 ghost use Rattle.bench.specs.Tables.{inSet};
 ghost use lib.Dec.{eqb};

@@ -1,5 +1,5 @@
 // The calls that change a bench: begin, inject, turn and close. A refused call changes nothing.
-ghost use Prim.Native.Nat.{ℕ, _<_};
+ghost use Prim.Native.Nat.{_<_};
 ghost use Rattle.agreement.specs.Refusals.{given, beginFault, injectRefusal, turnRefusal, closeFault};
 ghost use Rattle.agreement.specs.Steps.{Begun, Injected, TurnTaken, afterClose};
 ghost use Rattle.agreement.specs.Views.{rulesOf};

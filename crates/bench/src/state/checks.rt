@@ -1,9 +1,9 @@
 // What a bench looks at before it takes a call.
-ghost use Prim.Native.Nat.{ℕ, _≤_};
+ghost use Prim.Native.Nat.{_≤_};
 ghost use Rattle.agreement.specs.Refusals.{momentFault, lengthCause, readerFault, shotsFault, senderFault, valueFault, given, beginFault};
 ghost use Rattle.agreement.specs.Views.{momentOf, rulesOf};
 ghost use Rattle.bench.specs.Views.{viewOf};
-ghost use Rattle.std.specs.Options.{mapped, isSome};
+ghost use Rattle.std.specs.Options.{mapped};
 ghost use Rattle.std.specs.Results.{errPart};
 ghost use Rattle.std.specs.Vec.{made};
 ghost use lib.ListN.{length};

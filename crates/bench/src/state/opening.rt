@@ -1,5 +1,4 @@
 // Opening a bench, and the law that it then keeps.
-ghost use Prim.Native.Nat.{ℕ};
 ghost use Rattle.agreement.specs.Law.{AllAgree, opened};
 ghost use Rattle.agreement.specs.Refusals.{openFault};
 ghost use Rattle.agreement.specs.Views.{rulesOf};

@@ -1,8 +1,9 @@
 // The calls that read a bench.
-ghost use Prim.Native.Nat.{ℕ};
+ghost use Rattle.agreement.specs.Extraction.{Tells};
 ghost use Rattle.agreement.specs.Refusals.{verdictAnswer, tallyAnswer};
 ghost use Rattle.bench.specs.Views.{viewOf, senderOf};
 ghost use Rattle.std.specs.Results.{errPart};
+ghost use Rattle.std.specs.Vec.{made};
 ghost use Rattle.values.specs.Ranges.{blockFault};
 ghost use mathlib.Core.Path.{_≡_};
 use super::Bench;
@@ -27,7 +28,8 @@ fn check_block(block: u16) -> Result<(), ValueFault>
 impl<C: Carriage> Bench<C> {
     // What the correct controller q holds the running shot to have told, once all its phases are had.
     pub fn verdict(&self, q: u16) -> Result<Verdict, BenchFault>
-        ensures { λ r. ⌜ r ≡ verdictAnswer C·Carriage (viewOf (now (self .entry))) q ⌝ }
+        ensures is { λ r. ⌜ r ≡ verdictAnswer C·Carriage (viewOf (now (self .entry))) q ⌝ }
+        ensures tells { λ r. ⌜ made r (λ d. Tells (C·Carriage .model (viewOf (now (self .entry)) .carriage) .len) (viewOf (now (self .entry)) .extracted q) d) ⌝ }
     {
         self.check_moment(Act::Verdict)?;
         self.check_reader(q)?;

@@ -1,4 +1,4 @@
-use mathlib.Core.Path.{_≡_, refl, sym, ap, _∙_}
+use mathlib.Core.Path.{refl, sym, ap, _∙_}
 use Rattle.std.proofs.shelf.Maps.{nth-past, nth-read}
 use Rattle.agreement.specs.Steps.{blockOf, chargeOf}
 use Rattle.agreement.specs.Views.{rulesOf}

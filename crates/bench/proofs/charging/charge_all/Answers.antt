@@ -1,11 +1,11 @@
-use mathlib.Core.Path.{_≡_, refl, sym, ap, _∙_}
+use mathlib.Core.Path.{_≡_, sym, ap, _∙_}
 use mathlib.Core.Bool.{Bool, true, false, _&&_, cond}
 use Prim.Native.Nat.{ℕ, _<_}
 use native.Mathlib.Omega.{arith}
 use lib.Dec.{eqb, ltb}
 use lib.ListN.{length}
 use Rattle.std.proofs.shelf.Tests.{and-parts, ltb-true}
-use Rattle.carriage.specs.Groups.{correct, marked}
+use Rattle.carriage.specs.Groups.{correct}
 use Rattle.agreement.specs.Extraction.{verdictOf}
 use Rattle.agreement.specs.Steps.{charges, raised}
 use Rattle.agreement.specs.Views.{rulesOf}

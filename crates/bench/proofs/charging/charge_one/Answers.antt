@@ -1,4 +1,4 @@
-use mathlib.Core.Path.{_≡_, refl, sym, ap, _∙_}
+use mathlib.Core.Path.{ap, _∙_}
 use mathlib.Core.Bool.{_&&_, cond}
 use lib.Dec.{eqb}
 use Rattle.agreement.specs.Steps.{isBlock, raised}

@@ -1,12 +1,10 @@
 use mathlib.Core.Path.{_≡_, _∙_, ap, sym}
-use mathlib.Core.Bool.{Bool, true, false, cond}
-use Prim.Native.Nat.{_+_, _≤_}
 use native.Mathlib.Omega.{arith}
 use lib.Dec.{eqb}
 use Rattle.std.proofs.shelf.Tests.{eq-eqb, ne-eqb, cond-true, cond-false}
 use Rattle.sets.specs.Sets.{count}
 use Rattle.agreement.specs.Extraction.{highest}
-use Rattle.agreement.specs.declared.moments.Verdict.the-variants.{Place, SenderFaulty}
+use Rattle.agreement.specs.declared.moments.Verdict.the-variants.{Place}
 use Rattle.bench.specs.Tables.{inSet}
 use Rattle.bench.proofs.Filled.{count-start, highest-start, count-then, count-else, highest-then, highest-else}
 use Rattle.bench.proofs.places.Extracted.verdict.Needs as need

@@ -1,4 +1,4 @@
-use mathlib.Core.Path.{_≡_, sym, _∙_}
+use mathlib.Core.Path.{sym, _∙_}
 use denote.Ref.{now}
 use Rattle.std.specs.Options.{mapped}
 use Rattle.agreement.specs.Views.{rulesOf}

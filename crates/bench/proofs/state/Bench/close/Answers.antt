@@ -1,7 +1,6 @@
-use mathlib.Core.Path.{_≡_, refl, sym, ap, _∙_, fun-ext}
-use mathlib.Core.Bool.{Bool, true, false, _&&_, cond}
+use mathlib.Core.Path.{_≡_, sym, ap, _∙_}
+use mathlib.Core.Bool.{false, _&&_, cond}
 use Prim.Native.Nat.{ℕ, _+_}
-use native.Mathlib.Omega.{arith}
 use lib.ListN.{length}
 use Rattle.std.specs.Options.{mapped}
 use Rattle.std.specs.declared.option.Option.the-variants.{None}
@@ -13,7 +12,6 @@ use Rattle.agreement.specs.Views.{rulesOf}
 use Rattle.agreement.specs.declared.faults.BenchFault.the-variants.{List}
 use Rattle.agreement.proofs.Beginning.{passed}
 use Rattle.bench.specs.Tables.{inSet, tallyOf}
-use Rattle.bench.specs.Views.{viewOf}
 use Rattle.bench.proofs.Refusing.{past}
 use Rattle.bench.proofs.state.Bench.close.Needs as need
 

@@ -1,4 +1,4 @@
-use mathlib.Core.Path.{_≡_, refl, sym, ap, _∙_, subst}
+use mathlib.Core.Path.{_≡_, sym, subst}
 use mathlib.Core.Bool.{false}
 use Rattle.agreement.specs.Law.{AllAgree, opened}
 use Rattle.agreement.specs.Views.{View, rulesOf}

@@ -1,0 +1,24 @@
+use mathlib.Core.Path.{_≡_, sym, ap, _∙_, subst}
+use Prim.Native.Nat.{ℕ}
+use native.Mathlib.Omega.{arith}
+use native.Mathlib.Numerals.{add-one}
+use Rattle.agreement.specs.Refusals.{turnRefusal}
+use Rattle.bench.specs.Checks.{TookTurns, none, more}
+use Rattle.bench.specs.Views.{viewOf}
+use Rattle.bench.proofs.checks.take_turns.Needs as need
+
+pub loop-k-holds : need.loop-k-holds
+loop-k-holds g c = none
+
+pub loop-k-again : need.loop-k-again
+loop-k-again g c =
+    let view = viewOf (c .loop-k .bench) in
+    let after = viewOf (c .turn .last .self) in
+    let done = c .in-Continue-turn .ensures tt in
+    subst (λ (k : ℕ). TookTurns (g .C·Carriage) (viewOf (c .args .bench .now)) k after) (sym (add-one (c .loop-k .k)))
+    (more (c .loop-k .inv) (ap (turnRefusal (g .C·Carriage) view) (sym (add-one (c .loop-k .k))) ∙ sym (done .refusal)) (done .does))
+
+pub returns : need.returns
+returns g c =
+    let done : c .loop-k .k ≡ c .args .count = omega arith in
+    subst (λ (k : ℕ). TookTurns (g .C·Carriage) (viewOf (c .args .bench .now)) k (viewOf (c .loop-k .bench))) done (c .loop-k .inv)
