@@ -4,5 +4,5 @@ use Rattle.laboratory.proofs.passes.play_and_close.Needs as need
 
 pub returns : need.returns
 returns g c =
-    closed-by (c .args .q) (c .in-Continue-verdict .verdict) _ (c .in-Continue-play .ensures tt) (sym (c .verdict .ensures) ∙ c .in-Continue-verdict .was tt)
+    closed-by (c .args .q) (c .in-Continue-verdict .verdict) _ (c .in-Continue-play .ensures tt) (sym (c .verdict .ensures .is) ∙ c .in-Continue-verdict .was tt)
     (sym (c .in-Continue-close .ensures tt .refusal)) (c .in-Continue-close .ensures tt .does)

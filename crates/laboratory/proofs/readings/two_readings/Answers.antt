@@ -11,6 +11,6 @@ returns g c =
     let led = c .in-Continue-play .ensures tt in
     let told = law (led .events) _ (led .run) in
     let closed = law (taken (close 1) ∷ led .events) _ (more (led .run) (sym (c .in-Continue-close .ensures tt .refusal), c .in-Continue-close .ensures tt .does)) in (
-      same-verdicts (g .C·Carriage) _ told (c .args .q) (c .args .r) _ _ (sym (c .verdict .ensures) ∙ c .in-Continue-first .was tt) (sym (c .verdict-2 .ensures) ∙ c .in-Continue-second .was tt),
+      same-verdicts (g .C·Carriage) _ told (c .args .q) (c .args .r) _ _ (sym (c .verdict .ensures .is) ∙ c .in-Continue-first .was tt) (sym (c .verdict-2 .ensures .is) ∙ c .in-Continue-second .was tt),
       same-tallies (g .C·Carriage) _ closed (c .args .q) (c .args .r) (c .args .block) _ _ (sym (c .tally .ensures) ∙ c .in-Continue-first-tally .was tt) (sym (c .tally-2 .ensures) ∙ c .in-Continue-second-tally .was tt),
     )
