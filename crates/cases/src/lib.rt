@@ -6,4 +6,6 @@ mod groups;
 #[cfg(test)]
 mod seals;
 #[cfg(test)]
+mod shots;
+#[cfg(test)]
 mod values_and_lists;

@@ -11,6 +11,7 @@ use carriage::Frame;
 use values::Kind;
 
 // What a shot is begun with, and the frames that the laboratory writes for its first phase.
+#[derive(Drop)]
 pub struct Order<'a, K> {
     pub sender: u16,
     pub value: Option<&'a K>,
