@@ -4,17 +4,18 @@ use mathlib.Core.Bool.{true}
 use mathlib.Core.List.{List, [], _∷_}
 use Prim.Native.Nat.{ℕ, suc, _+_, _*_, _<_}
 use native.Mathlib.Omega.{arith}
+use lib.ListN.{length}
 use Rattle.std.specs.Options.{mapped}
 use Rattle.std.specs.declared.option.Option.{Option}
 use Rattle.std.specs.declared.option.Option.the-variants.{None, Some}
 use Rattle.std.specs.declared.result.Result.{Result}
 use Rattle.std.specs.declared.result.Result.the-variants.{Ok}
-use Rattle.std.proofs.shelf.Tests.{ltb-true}
+use Rattle.std.proofs.shelf.Tests.{ltb-true, eqb-true}
 use Rattle.carriage.specs.Groups.{correct}
-use Rattle.carriage.specs.Model.{isCorrect}
+use Rattle.carriage.specs.Model.{Model, isCorrect}
 use Rattle.carriage.specs.declared.meaning.Carriage.{Ghosts as Account}
-use Rattle.agreement.specs.Law.{AllAgree, AllShow}
-use Rattle.agreement.specs.Refusals.{given, answerBy, beginFault, closeFault, verdictAnswer, tallyAnswer}
+use Rattle.agreement.specs.Law.{toldBy, AllAgree, AllShow}
+use Rattle.agreement.specs.Refusals.{given, answerBy, openFault, beginFault, closeFault, verdictAnswer, tallyAnswer}
 use Rattle.agreement.specs.Runs.{Run, none as ran-none, more as ran-more, turnedOn, shotOf}
 use Rattle.agreement.specs.Steps.{Begun, afterClose, Event, taken, begin, turn, close}
 use Rattle.agreement.specs.Views.{View, Rules, modelOf}
@@ -46,9 +47,13 @@ module _ {C K : Type 0} (account : Account C) (rules : Rules K) where
       let same : k ≡ 2 * (modelOf account u .group .t + 1) = all ∙ ap (λ g. 2 * (g .t + 1)) (begun-group keeps s (given rules x) u v b) in
       record { events = r .0; run = r .1; shot = r .2 ∙ ap (λ (n : ℕ). Some (record { sender = s; value = x; turns = n })) same }
 
-  -- the verdict that all show
-  pub shot-shown : (u w : View C) (s : ℕ) (x : Option K) → AllAgree account rules u → TookShot account rules s x u w → (d : Verdict) × AllShow account w d
-  shot-shown u w s x law took = let a = law (took .events) w (took .run) .agree _ (took .shot) refl in (a .0, a .1)
+  -- the verdict that all show; a correct sender is believed
+  pub shot-shown : (u w : View C) (s : ℕ) (x : Option K) → AllAgree account rules u → TookShot account rules s x u w
+      → (d : Verdict) × AllShow account w d × (isCorrect (modelOf account w) s ≡ true → d ≡ toldBy (given rules x))
+  shot-shown u w s x law took =
+      let all = law (took .events) w (took .run) in
+      let a = all .agree _ (took .shot) refl in
+      (a .0, a .1, λ ok. a .2 (ap (λ g. correct g s) (sym (all .group)) ∙ ok))
 
   -- a controller whose register is read after one more close
   pub close-tallies : (u w z : View C) (s shot : ℕ) (x : Option K) → AllAgree account rules u → TookShot account rules s x u w → closeFault account rules w shot ≡ None → z ≡ afterClose account rules w
@@ -72,3 +77,10 @@ module _ {C : Type 0} (account : Account C) (w : View C) (q : ℕ) where
 -- two answers that are both d
 pub one-answer : {T : Type 0} (a b : Result T BenchFault) (x y d : T) → a ≡ Ok x → b ≡ Ok y → a ≡ Ok d → b ≡ Ok d → x ≡ y
 one-answer a b x y d p q r s = cc
+
+-- a list that a bench was opened with is as long as the carriage says
+pub opened-length : {K : Type 0} (m : Model) (rules : Rules K) → openFault m rules ≡ None → length (rules .values) ≡ m .len
+opened-length m rules e = eqb-true _ _ (passed _ None _ (first-none _ _ e .0) .0)
+
+pub believed : {T : Type 0} (a : Result T BenchFault) (x d : T) → a ≡ Ok x → a ≡ Ok d → x ≡ d
+believed a x d p q = cc
