@@ -2,12 +2,15 @@
 // bench that they open.
 ghost use Prim.Native.Nat.{_≤_};
 ghost use Rattle.agreement.specs.Law.{toldBy};
-ghost use Rattle.agreement.specs.Refusals.{given};
+ghost use Rattle.agreement.specs.Refusals.{first, given};
 ghost use Rattle.agreement.specs.Views.{rulesOf};
-ghost use Rattle.bench.specs.Checks.{TookTurns, TookShot};
+ghost use Rattle.bench.specs.Checks.{Turnable, TookTurns, Played, shotFault, readerAt};
 ghost use Rattle.bench.specs.Views.{viewOf};
 ghost use Rattle.std.specs.Options.{mapped};
+ghost use Rattle.agreement.specs.declared.faults.BenchFault.the-variants.{Value};
+ghost use Rattle.std.specs.Results.{errPart};
 ghost use Rattle.std.specs.Vec.{made};
+ghost use Rattle.values.specs.Ranges.{blockFault};
 ghost use lib.ListN.{length};
 ghost use mathlib.Core.Bool.{true};
 ghost use mathlib.Core.Path.{_≡_};
@@ -19,14 +22,36 @@ use carriage::Carriage;
 use values::Kind;
 use values::place;
 
-// Takes the first turns of a shot.
-fn take_turns<C: Carriage>(bench: &mut Bench<C>, count: u16) -> Result<(), BenchFault>
-    ensures { λ r. ⌜ made r (λ _. TookTurns C·Carriage (viewOf (now (bench .entry))) count (viewOf (now (bench .exit)))) ⌝ }
+// Takes the first turns of a shot that was just begun. None of them is refused.
+fn take_turns<C: Carriage>(bench: &mut Bench<C>, count: u16)
+    requires { ⌜ Turnable C·Carriage (viewOf (now bench)) count ⌝ }
+    ensures { λ _. ⌜ TookTurns C·Carriage (viewOf (now (bench .entry))) count (viewOf (now (bench .exit))) ⌝ }
 {
     for k in 0..count {
-        bench.turn(k + 1)?;
+        let Ok(()) = bench.turn(k + 1) else {
+            unreachable()
+        };
     }
-    Ok(())
+}
+
+// Opens a bench, begins a shot and takes all its turns.
+fn play<C: Carriage + Drop, K: Kind>(
+    carriage: C,
+    list: &[K],
+    sender: u16,
+    value: Option<&K>,
+) -> Result<Bench<C>, BenchFault>
+    ensures refusal { λ r. ⌜ errPart r ≡ shotFault C·Carriage (rulesOf (K·Kind .same) (K·Kind .charge) (now (list .entry))) carriage sender (mapped now (value .entry)) ⌝ }
+    ensures played { λ r. ⌜ made r (λ b. Played C·Carriage (rulesOf (K·Kind .same) (K·Kind .charge) (now (list .entry))) carriage sender (mapped now (value .entry)) (viewOf b)) ⌝ }
+{
+    let mut bench = match Bench::open(carriage, list) {
+        Ok(bench) => bench,
+        Err(unopened) => return Err(unopened.fault),
+    };
+    bench.begin(list, sender, value)?;
+    let turns = 2 * (bench.group().t() + 1);
+    take_turns(&mut bench, turns);
+    Ok(bench)
 }
 
 // What a correct sender's shot tells.
@@ -43,21 +68,6 @@ fn expected_verdict<K: Kind>(list: &[K], value: Option<&K>) -> Verdict
     Verdict::Place(p as u16)
 }
 
-// Begins a shot and takes all its turns.
-fn take_shot<C: Carriage, K: Kind>(
-    bench: &mut Bench<C>,
-    list: &[K],
-    sender: u16,
-    value: Option<&K>,
-) -> Result<(), BenchFault>
-    ensures { λ r. ⌜ made r (λ _. TookShot C·Carriage (rulesOf (K·Kind .same) (K·Kind .charge) (now (list .entry))) sender (mapped now (value .entry)) (viewOf (now (bench .entry))) (viewOf (now (bench .exit)))) ⌝ }
-{
-    bench.begin(list, sender, value)?;
-    let turns = 2 * (bench.group().t() + 1);
-    take_turns(bench, turns)?;
-    Ok(())
-}
-
 // Whether two correct controllers show the same verdict on a shot: they always do.
 pub fn verdicts_agree<C: Carriage + Drop, K: Kind>(
     carriage: C,
@@ -67,13 +77,10 @@ pub fn verdicts_agree<C: Carriage + Drop, K: Kind>(
     q: u16,
     r: u16,
 ) -> Result<bool, BenchFault>
-    ensures { λ a. ⌜ made a (λ same. same ≡ true) ⌝ }
+    ensures refusal { λ a. ⌜ errPart a ≡ first (shotFault C·Carriage (rulesOf (K·Kind .same) (K·Kind .charge) (now (list .entry))) carriage sender (mapped now (value .entry))) (first (readerAt (C·Carriage .model carriage) q) (readerAt (C·Carriage .model carriage) r)) ⌝ }
+    ensures agree { λ a. ⌜ made a (λ same. same ≡ true) ⌝ }
 {
-    let mut bench = match Bench::open(carriage, list) {
-        Ok(bench) => bench,
-        Err(unopened) => return Err(unopened.fault),
-    };
-    take_shot(&mut bench, list, sender, value)?;
+    let bench = play(carriage, list, sender, value)?;
     let one = bench.verdict(q)?;
     let two = bench.verdict(r)?;
     Ok(one == two)
@@ -88,13 +95,10 @@ pub fn sender_believed<C: Carriage + Drop, K: Kind>(
     value: Option<&K>,
     q: u16,
 ) -> Result<bool, BenchFault>
-    ensures { λ a. ⌜ made a (λ told. told ≡ true) ⌝ }
+    ensures refusal { λ a. ⌜ errPart a ≡ first (shotFault C·Carriage (rulesOf (K·Kind .same) (K·Kind .charge) (now (list .entry))) carriage sender (mapped now (value .entry))) (readerAt (C·Carriage .model carriage) q) ⌝ }
+    ensures believed { λ a. ⌜ made a (λ told. told ≡ true) ⌝ }
 {
-    let mut bench = match Bench::open(carriage, list) {
-        Ok(bench) => bench,
-        Err(unopened) => return Err(unopened.fault),
-    };
-    take_shot(&mut bench, list, sender, value)?;
+    let bench = play(carriage, list, sender, value)?;
     let shown = bench.verdict(q)?;
     let expected = expected_verdict(list, value);
     Ok(!bench.group().is_correct(sender) || shown == expected)
@@ -110,14 +114,13 @@ pub fn tallies_agree<C: Carriage + Drop, K: Kind>(
     r: u16,
     block: u16,
 ) -> Result<bool, BenchFault>
-    ensures { λ a. ⌜ made a (λ same. same ≡ true) ⌝ }
+    ensures refusal { λ a. ⌜ errPart a ≡ first (shotFault C·Carriage (rulesOf (K·Kind .same) (K·Kind .charge) (now (list .entry))) carriage sender (mapped now (value .entry))) (first (mapped Value (blockFault block)) (first (readerAt (C·Carriage .model carriage) q) (readerAt (C·Carriage .model carriage) r))) ⌝ }
+    ensures agree { λ a. ⌜ made a (λ same. same ≡ true) ⌝ }
 {
-    let mut bench = match Bench::open(carriage, list) {
-        Ok(bench) => bench,
-        Err(unopened) => return Err(unopened.fault),
+    let mut bench = play(carriage, list, sender, value)?;
+    let Ok(()) = bench.close(list, 1) else {
+        unreachable()
     };
-    take_shot(&mut bench, list, sender, value)?;
-    bench.close(list, 1)?;
     let one = bench.tally(q, block)?;
     let two = bench.tally(r, block)?;
     Ok(one == two)
