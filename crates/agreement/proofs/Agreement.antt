@@ -12,6 +12,7 @@ use Rattle.std.specs.declared.option.Option.{Option}
 use Rattle.std.specs.declared.option.Option.the-variants.{None, Some}
 use Rattle.std.specs.declared.result.Result.the-variants.{Ok}
 use Rattle.std.proofs.shelf.Tests.{cond-true, both-ways, eq-eqb, eqb-true, cases-bool, lt-ltb, ltb-true, ltb-false}
+use Rattle.values.specs.Ranges.{blockFault}
 use Rattle.values.specs.declared.faults.ValueFault.the-variants.{Block}
 use Rattle.carriage.specs.Groups.{correct}
 use Rattle.carriage.specs.Model.{Model, Lawful, Turned, isCorrect, afresh, afterOffer, endPhase}
@@ -264,6 +265,7 @@ module _ {C K : Type 0} (account : Account C) (rules : Rules K) (keeps : Keeps a
         verdicts = a .verdicts;
         shown = a .shown;
         closed = a .closed;
+        equal = equal;
         tallies = tallies;
         out = λ q b ok small. (λ three. tallies q b ok small ∙ ap Ok (omega arith), λ e. let t = tallies q b ok small in let z : min 3 (times rules b (a .verdicts)) ≡ 3 = cc in omega arith);
       }
@@ -278,6 +280,14 @@ module _ {C K : Type 0} (account : Account C) (rules : Rules K) (keeps : Keeps a
           let g = goes shot e in
           let r = all-show account rules w shot g (omega (arith, g .phase)) in
           (r .0, r .1, λ ok. r .2 (ap (λ g. correct g (shot .sender)) (a .group) ∙ ok))
+
+      equal : (q r b : ℕ) → isCorrect (modelOf account u) q ≡ true → isCorrect (modelOf account u) r ≡ true → tallyAnswer account w q b ≡ tallyAnswer account w r b
+      equal q r b one two =
+          ap (λ c. answerBy (first (mapped Value (blockFault b)) (cond c None (Some (Carriage NotCorrect)))) (w .tally q b)) (here q one ∙ sym (here r two))
+          ∙ ap (λ n. answerBy (first (mapped Value (blockFault b)) (readerFault account w r)) n) (a .tallies q b one ∙ sym (a .tallies r b two))
+        where
+          here : (p : ℕ) → isCorrect (modelOf account u) p ≡ true → isCorrect (modelOf account w) p ≡ true
+          here p ok = ap (λ g. correct g p) (a .group) ∙ ok
 
       tallies : (q b : ℕ) → isCorrect (modelOf account u) q ≡ true → b < 64 → tallyAnswer account w q b ≡ Ok (min 3 (times rules b (a .verdicts)))
       tallies q b ok small = tally-read w q b (ap (λ g. correct g q) (a .group) ∙ ok) small ∙ ap Ok (a .tallies q b ok)

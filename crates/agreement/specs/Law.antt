@@ -53,7 +53,9 @@ module _ {C K : Type 0} (account : Account C) (rules : Rules K) where
     pub verdicts : List Verdict
     pub shown : Shown account before verdicts
     pub closed : w .closed ≡ length verdicts
-    -- every correct controller's register has for each block how many closed shots charged it, up to 3
+    -- all correct controllers' registers are equal, block by block
+    pub equal : (q r b : ℕ) → isCorrect (modelOf account u) q ≡ true → isCorrect (modelOf account u) r ≡ true → tallyAnswer account w q b ≡ tallyAnswer account w r b
+    -- they have for each block how many closed shots charged it, up to 3
     pub tallies : (q b : ℕ) → isCorrect (modelOf account u) q ≡ true → b < 64 → tallyAnswer account w q b ≡ Ok (min 3 (times rules b verdicts))
     -- a block is out of the pool, charged by three closed shots or more, exactly where its tally is 3
     pub out : (q b : ℕ) → isCorrect (modelOf account u) q ≡ true → b < 64

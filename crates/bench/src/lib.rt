@@ -10,6 +10,7 @@ mod shots;
 mod state;
 mod tallies;
 
+pub use checks::sender_believed;
 pub use checks::tallies_agree;
 pub use checks::verdicts_agree;
 pub use state::Bench;

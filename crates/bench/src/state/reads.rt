@@ -74,4 +74,18 @@ impl<C: Carriage> Bench<C> {
     {
         self.carriage.group()
     }
+
+    // The carriage, to be read: who holds what, and whatever else it tells.
+    pub fn carriage(&self) -> &C
+        ensures { λ r. ⌜ now r ≡ viewOf (now (self .entry)) .carriage ⌝ }
+    {
+        &self.carriage
+    }
+
+    // Ends the bench and hands its carriage back.
+    pub fn into_carriage(self) -> C
+        ensures { λ r. ⌜ r ≡ viewOf self .carriage ⌝ }
+    {
+        self.carriage
+    }
 }

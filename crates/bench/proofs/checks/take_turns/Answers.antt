@@ -3,8 +3,11 @@ use Prim.Native.Nat.{ℕ}
 use native.Mathlib.Omega.{arith}
 use native.Mathlib.Numerals.{add-one}
 use Rattle.agreement.specs.Refusals.{turnRefusal}
+use Rattle.agreement.proofs.Agreement.{Keeps}
 use Rattle.bench.specs.Checks.{TookTurns, none, more}
 use Rattle.bench.specs.Views.{viewOf}
+use Rattle.bench.proofs.Chains.{no-refusal}
+use Rattle.bench.proofs.Playing.{next-fine}
 use Rattle.bench.proofs.checks.take_turns.Needs as need
 
 pub loop-k-holds : need.loop-k-holds
@@ -14,9 +17,16 @@ pub loop-k-again : need.loop-k-again
 loop-k-again g c =
     let view = viewOf (c .loop-k .bench) in
     let after = viewOf (c .turn .last .self) in
-    let done = c .in-Continue-turn .ensures tt in
+    let done = c .in-Ok .ensures tt in
     subst (λ (k : ℕ). TookTurns (g .C·Carriage) (viewOf (c .args .bench .now)) k after) (sym (add-one (c .loop-k .k)))
     (more (c .loop-k .inv) (ap (turnRefusal (g .C·Carriage) view) (sym (add-one (c .loop-k .k))) ∙ sym (done .refusal)) (done .does))
+
+pub unreachable-requires : need.unreachable-requires
+unreachable-requires g c κs =
+    let met = g .C·Carriage·met in
+    let keeps : Keeps (g .C·Carriage) = record { lawful = met .lawful; starts = met .«starts_afresh»; offers = met .«offers_one»; injects = met .«injects_nothing»; turns = met .«turns_on» } in
+    let fine = next-fine (g .C·Carriage) keeps (viewOf (c .args .bench .now)) (viewOf (c .loop-k .bench)) (c .args .count) (c .loop-k .k) (c .pre) (c .loop-k-test .taken) (c .loop-k .inv) in
+    no-refusal (c .in-rest .field-0) _ (c .in-rest .ensures tt .refusal) fine
 
 pub returns : need.returns
 returns g c =
