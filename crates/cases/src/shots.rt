@@ -76,7 +76,12 @@ fn two_stories_over_echo() -> Result<(), Fail> {
         Notice::new(Outcome::Failed, 9, 0)?,
     ];
     let mut bench = open_echo(group, &list)?;
-    bench.begin(&list, 3, None)?;
+    let order = Order {
+        sender: 3,
+        value: None,
+        frames: &[],
+    };
+    bench.begin(&list, order.sender, order.value)?;
     tell_two_stories(&mut bench, b'i')?;
     bench.inject(Frame::new(3, 0, b'e', story(1)))?;
     for phase in 2..5u16 {
@@ -97,7 +102,12 @@ fn two_stories_over_seal() -> Result<(), Fail> {
     };
     let list = [PulseReport::new(5, 8)?, PulseReport::new(9, 3)?];
     let mut bench = open_seal(group, &list)?;
-    bench.begin(&list, 3, None)?;
+    let order = Order {
+        sender: 3,
+        value: None,
+        frames: &[],
+    };
+    bench.begin(&list, order.sender, order.value)?;
     tell_two_stories(&mut bench, b's')?;
     for phase in 2..5u16 {
         bench.turn(phase)?;
@@ -120,15 +130,18 @@ fn a_bench_refuses_by_number() -> Result<(), Fail> {
     check_eq(answer(bench.turn(1)), 9)?;
     check_eq(answer(bench.close(&[a], 1)), 9)?;
     check_eq(bench.verdict(0), Err(BenchFault::Moment))?;
-    check_eq(answer(bench.begin(&[a, b], 0, None)), 7)?;
+    check_eq(answer(bench.begin(&[a, b], 0, Some(&a))), 7)?;
     check_eq(answer(bench.begin(&[a], 65535, Some(&b))), 10)?;
     check_eq(answer(bench.begin(&[a], 3, Some(&a))), 11)?;
     check_eq(answer(bench.begin(&[a], 0, Some(&b))), 12)?;
     check_eq(answer(bench.begin(&[a], 0, Some(&a))), 0)?;
-    check_eq(answer(bench.begin(&[a, b], 9, None)), 9)?;
+    check_eq(answer(bench.begin(&[a, b], 9, Some(&a))), 9)?;
     check_eq(answer(bench.turn(2)), 9)?;
     check_eq(answer(bench.inject(Frame::new(1, 0, b'e', story(0)))), 14)?;
-    check_eq(bench.tally(3, 64).is_err() && bench.tally(3, 0).is_err(), true)
+    check_eq(
+        bench.tally(3, 64).is_err() && bench.tally(3, 0).is_err(),
+        true,
+    )
 }
 
 #[test]
