@@ -82,12 +82,7 @@ impl Bench {
     }
 
     /// The place of the sender's value, if it is given one.
-    fn check_begin(
-        &self,
-        list: &[Value],
-        sender: Controller,
-        value: Option<&Value>,
-    ) -> Result<Option<Place>, Fault> {
+    fn check_begin(&self, list: &[Value], sender: Controller, value: Option<&Value>) -> Result<Option<Place>, Fault> {
         if self.moment() != Moment::Idle {
             return Err(Fault::Moment);
         }

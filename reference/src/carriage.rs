@@ -261,8 +261,7 @@ impl Carriage {
     /// Echo rules 2 and 3.
     fn becomes_witness(&self, q: Controller, triple: Triple) -> bool {
         let k = self.phase;
-        let init = k == triple.first_phase()
-            && self.sources(q, Letter::Init, triple, k, k).contains(&triple.origin);
+        let init = k == triple.first_phase() && self.sources(q, Letter::Init, triple, k, k).contains(&triple.origin);
         let echoes = self.sources(q, Letter::Echo, triple, triple.second_phase(), k);
         init || echoes.len() >= usize::from(self.group.t() + 1)
     }
@@ -276,9 +275,7 @@ impl Carriage {
     fn turn_echoes(&mut self) {
         let mut witnesses = self.pairs();
         let mut newly = witnesses.clone();
-        witnesses.retain(|&(q, triple)| {
-            !self.witnesses.contains(&(q, triple)) && self.becomes_witness(q, triple)
-        });
+        witnesses.retain(|&(q, triple)| !self.witnesses.contains(&(q, triple)) && self.becomes_witness(q, triple));
         newly.retain(|&(q, triple)| !self.accepted[&q].contains(&triple) && self.echo_accepts(q, triple));
         self.phase += 1;
         for (q, triple) in newly {

@@ -88,11 +88,36 @@ fn fault_1_in_the_header() {
 #[test]
 fn fault_2_in_the_header() {
     for (number, line) in [
-        (1, "bench=2"), (1, "bench=01"), (1, "n=4"), (1, ""), (2, "n="), (2, "n=04"), (2, "n=+4"), (2, "n=-4"),
-        (2, "n=65536"), (2, "n=4\r"), (3, "t=x"), (3, "t=1 "), (4, "marks="), (4, "marks=3,"), (4, "marks=2,1"),
-        (4, "marks=1,1"), (4, "marks=20,16"), (4, "marks=-,1"), (5, "carriage=Echo"), (5, "carriage="),
-        (6, "kind=echo"), (7, "values=02"), (7, "values=-"), (8, "v=5,8"), (8, "v=f,5,0"), (8, "v=F,5"),
-        (8, "v=F,5,0,0"), (8, "v=F,64,65536"), (9, "begin=0,-"), (9, "v=F,9,\u{0}"),
+        (1, "bench=2"),
+        (1, "bench=01"),
+        (1, "n=4"),
+        (1, ""),
+        (2, "n="),
+        (2, "n=04"),
+        (2, "n=+4"),
+        (2, "n=-4"),
+        (2, "n=65536"),
+        (2, "n=4\r"),
+        (3, "t=x"),
+        (3, "t=1 "),
+        (4, "marks="),
+        (4, "marks=3,"),
+        (4, "marks=2,1"),
+        (4, "marks=1,1"),
+        (4, "marks=20,16"),
+        (4, "marks=-,1"),
+        (5, "carriage=Echo"),
+        (5, "carriage="),
+        (6, "kind=echo"),
+        (7, "values=02"),
+        (7, "values=-"),
+        (8, "v=5,8"),
+        (8, "v=f,5,0"),
+        (8, "v=F,5"),
+        (8, "v=F,5,0,0"),
+        (8, "v=F,64,65536"),
+        (9, "begin=0,-"),
+        (9, "v=F,9,\u{0}"),
     ] {
         header_with(number, line, &format!("{number},text,2"));
     }
@@ -176,9 +201,20 @@ fn faults_9_to_12_of_the_bench() {
 #[test]
 fn faults_14_to_18_of_the_carriage() {
     for (frame, number) in [
-        ("0,3,i,9,9,9", 14), ("4,3,i,9,9,9", 14), ("65535,0,s,0,1,0", 14), ("3,3,i,9,9,9", 15), ("3,4,i,9,9,9", 15),
-        ("3,0,i,9,9,9", 16), ("3,0,e,3,1,0", 16), ("3,0,s,4,1,0", 17), ("3,0,s,3,0,0", 17), ("3,0,s,3,3,0", 17),
-        ("3,0,s,3,1,2", 17), ("3,0,s,0,1,65535", 17), ("3,0,s,0,1,0", 18), ("3,0,s,1,2,1", 18),
+        ("0,3,i,9,9,9", 14),
+        ("4,3,i,9,9,9", 14),
+        ("65535,0,s,0,1,0", 14),
+        ("3,3,i,9,9,9", 15),
+        ("3,4,i,9,9,9", 15),
+        ("3,0,i,9,9,9", 16),
+        ("3,0,e,3,1,0", 16),
+        ("3,0,s,4,1,0", 17),
+        ("3,0,s,3,0,0", 17),
+        ("3,0,s,3,3,0", 17),
+        ("3,0,s,3,1,2", 17),
+        ("3,0,s,0,1,65535", 17),
+        ("3,0,s,0,1,0", 18),
+        ("3,0,s,1,2,1", 18),
     ] {
         refused_act("begin=0,-\n", &format!("inject={frame}"), &format!("carriage,{number}"));
     }
@@ -189,9 +225,7 @@ fn faults_14_to_18_of_the_carriage() {
 
 #[test]
 fn a_block_is_out_at_the_third_charge() {
-    let shot = |number: u32, value: &str| {
-        format!("begin=1,{value}\nturn=1\nturn=2\nturn=3\nturn=4\nclose={number}\n")
-    };
+    let shot = |number: u32, value: &str| format!("begin=1,{value}\nturn=1\nturn=2\nturn=3\nturn=4\nclose={number}\n");
     let two = format!("{}{}{}", shot(1, "F,9,1"), shot(2, "F,5,2"), shot(3, "F,9,3"));
     let three = format!("{two}{}{}{}", shot(4, "F,9,4"), shot(5, "F,5,5"), shot(6, "F,5,6"));
     assert_eq!(acts(&two), "shot=1,1,1\nshot=2,1,0\nshot=3,1,1\nout=-\nend=18,0\n");

@@ -13,11 +13,9 @@ enum Order {
 fn read_order(arguments: &[String]) -> Option<Order> {
     match arguments {
         [seed] => Some(Order::Print { seed: seed.parse().ok()? }),
-        [first, count, directory] => Some(Order::Write {
-            first: first.parse().ok()?,
-            count: count.parse().ok()?,
-            directory: directory.clone(),
-        }),
+        [first, count, directory] => {
+            Some(Order::Write { first: first.parse().ok()?, count: count.parse().ok()?, directory: directory.clone() })
+        }
         _ => None,
     }
 }

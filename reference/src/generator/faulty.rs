@@ -4,6 +4,88 @@ use super::plan::{any_tick, any_value, written_marks, Plan};
 use super::random::Random;
 use crate::value::Kind;
 
+/// Lines that are near an act; all but a few cannot be read.
+const UNREADABLE: [&str; 78] = [
+    "",
+    "=",
+    "turn",
+    "turn=",
+    "turn=01",
+    "turn=+1",
+    "turn=-1",
+    "turn=1,",
+    "turn=1 ",
+    " turn=1",
+    "Turn=1",
+    "turn=65536",
+    "turn=65535",
+    "turn=99999",
+    "turn=100000",
+    "turn==1",
+    "turn=1=1",
+    "turn=00",
+    "turn=0",
+    "turn=0x1",
+    "close=",
+    "close=1,1",
+    "close=-",
+    "close=001",
+    "close=1\r",
+    "begin",
+    "begin=",
+    "begin=0",
+    "begin=0,",
+    "begin=,-",
+    "begin=0,-,",
+    "begin=0,-,0",
+    "begin=-,-",
+    "begin=00,-",
+    "begin=0,F",
+    "begin=0,F,5",
+    "begin=0,F,5,",
+    "begin=0,F,5,0,0",
+    "begin=0,f,5,0",
+    "begin=0,E,5,0",
+    "begin=0,FF,5,0",
+    "begin=0,F,05,0",
+    "begin=0,F,64,65536",
+    "begin=0,F,65536,0",
+    "begin=65536,F,64,0",
+    "begin=0,5",
+    "begin=0,5,",
+    "begin=0,5,8,0",
+    "begin=0,64,09",
+    "begin=0,05,8",
+    "begin=0,5,65536",
+    "begin=0,--",
+    "inject=",
+    "inject=3,0,i,3,1",
+    "inject=3,0,i,3,1,0,0",
+    "inject=3,0,x,3,1,0",
+    "inject=3,0,I,3,1,0",
+    "inject=3,0,ee,3,1,0",
+    "inject=3,0,,3,1,0",
+    "inject=3,0,s,3,1,00",
+    "inject=65536,0,e,3,1,0",
+    "inject=3,0,e,3,1,65536",
+    "inject=3,0,e,3,-1,0",
+    "inject=3,0,1,3,1,0",
+    "inject=3,0,e,,1,0",
+    "v=F,5,0",
+    "v=5,8",
+    "n=4",
+    "bench=1",
+    "#",
+    "end=0,0",
+    "values=1",
+    "turns=1",
+    "tur=1",
+    "turn:1",
+    "verdict=0",
+    "tally=0,0",
+    "open=1",
+];
+
 /// A number of no meaning here, often at an edge.
 fn odd_number(random: &mut Random) -> u16 {
     match random.below(5) {
@@ -92,7 +174,11 @@ fn inject(random: &mut Random, plan: &Plan) -> String {
     let anyone = random.between(0, plan.n);
     let mut field = |good: u16, bad: u16| {
         let choice = if random.once_in(wrong) { bad } else { good };
-        if random.once_in(4 * wrong) { odd_number(random) } else { choice }
+        if random.once_in(4 * wrong) {
+            odd_number(random)
+        } else {
+            choice
+        }
     };
     let from = field(marked, correct);
     let to = field(correct, if marked < anyone { marked } else { anyone });
@@ -105,22 +191,10 @@ fn inject(random: &mut Random, plan: &Plan) -> String {
 
 /// A line that is near an act and cannot be read.
 fn unreadable(random: &mut Random, plan: &Plan) -> String {
-    let lines = [
-        "", "=", "turn", "turn=", "turn=01", "turn=+1", "turn=-1", "turn=1,", "turn=1 ", " turn=1", "Turn=1", "turn=65536",
-        "turn=65535", "turn=99999", "turn=100000", "turn==1", "turn=1=1", "turn=00", "turn=0", "turn=0x1", "close=", "close=1,1", "close=-",
-        "close=001", "close=1\r", "begin", "begin=", "begin=0", "begin=0,", "begin=,-", "begin=0,-,", "begin=0,-,0",
-        "begin=-,-", "begin=00,-", "begin=0,F", "begin=0,F,5", "begin=0,F,5,", "begin=0,F,5,0,0", "begin=0,f,5,0",
-        "begin=0,E,5,0", "begin=0,FF,5,0", "begin=0,F,05,0", "begin=0,F,64,65536", "begin=0,F,65536,0",
-        "begin=65536,F,64,0", "begin=0,5", "begin=0,5,", "begin=0,5,8,0", "begin=0,64,09", "begin=0,05,8", "begin=0,5,65536",
-        "begin=0,--", "inject=", "inject=3,0,i,3,1", "inject=3,0,i,3,1,0,0", "inject=3,0,x,3,1,0", "inject=3,0,I,3,1,0",
-        "inject=3,0,ee,3,1,0", "inject=3,0,,3,1,0", "inject=3,0,s,3,1,00", "inject=65536,0,e,3,1,0", "inject=3,0,e,3,1,65536",
-        "inject=3,0,e,3,-1,0", "inject=3,0,1,3,1,0", "inject=3,0,e,,1,0", "v=F,5,0", "v=5,8", "n=4", "bench=1", "#", "end=0,0",
-        "values=1", "turns=1", "tur=1", "turn:1", "verdict=0", "tally=0,0", "open=1",
-    ];
     if random.once_in(6) {
         return filled(random, plan);
     }
-    random.pick(&lines).to_string()
+    random.pick(&UNREADABLE).to_string()
 }
 
 /// A line of 63 to 66 bytes, or much longer.
@@ -153,12 +227,25 @@ pub fn header(random: &mut Random, plan: &Plan) -> Vec<String> {
 }
 
 fn faulty_first(random: &mut Random) -> String {
-    let lines = ["bench=2", "bench=0", "bench=", "bench=01", "bench=1 ", "Bench=1", "bench", "", "n=4", "bench=1,1", "bench=65536"];
+    let lines = [
+        "bench=2",
+        "bench=0",
+        "bench=",
+        "bench=01",
+        "bench=1 ",
+        "Bench=1",
+        "bench",
+        "",
+        "n=4",
+        "bench=1,1",
+        "bench=65536",
+    ];
     random.pick(&lines).to_string()
 }
 
 fn faulty_number(random: &mut Random, key: &str) -> String {
-    let numbers = ["", "-", "-1", "+1", "01", "00", "0", "5", "17", "65535", "65536", "4 ", " 4", "4,", "x", "4\r", "1000000"];
+    let numbers =
+        ["", "-", "-1", "+1", "01", "00", "0", "5", "17", "65535", "65536", "4 ", " 4", "4,", "x", "4\r", "1000000"];
     let number = random.pick(&numbers);
     if random.once_in(10) {
         return format!("{key}{key}={number}");
@@ -184,12 +271,33 @@ fn faulty_group(random: &mut Random, plan: &Plan, lines: &mut [String]) {
 
 fn faulty_marks(random: &mut Random, plan: &Plan) -> String {
     let marks = [
-        "", "-,", "--", ",", "0,", ",0", "1,0", "1,1", "0,0", "16", "15,16", "65535", "65536", "16,15", "00", "0,01", "-1",
-        "0,1,2,3,4,5,6,7,8,9,10,11,12,13,14,15", "0;1", "0 1", "x", "0,1,2,3,4,5,6,7,8,9,10,11,12,13,14,16",
+        "",
+        "-,",
+        "--",
+        ",",
+        "0,",
+        ",0",
+        "1,0",
+        "1,1",
+        "0,0",
+        "16",
+        "15,16",
+        "65535",
+        "65536",
+        "16,15",
+        "00",
+        "0,01",
+        "-1",
+        "0,1,2,3,4,5,6,7,8,9,10,11,12,13,14,15",
+        "0;1",
+        "0 1",
+        "x",
+        "0,1,2,3,4,5,6,7,8,9,10,11,12,13,14,16",
     ];
-    match random.below(4) {
+    match random.below(6) {
         0 => format!("marks={}", plan.n),
         1 => format!("marks={}", long_marks(random)),
+        2 => format!("marks={0},{0}", random.between(0, plan.n)),
         _ => format!("marks={}", random.pick(&marks)),
     }
 }
@@ -202,11 +310,31 @@ fn long_marks(random: &mut Random) -> String {
 }
 
 fn faulty_word(random: &mut Random) -> &'static str {
-    random.pick(&["", "Echo", "echo ", "echoe", "ech", "seals", "seal,", "echo", "seal", "notice", "pulse", "Notice", "pulses", "-", "1"])
+    random.pick(&[
+        "", "Echo", "echo ", "echoe", "ech", "seals", "seal,", "echo", "seal", "notice", "pulse", "Notice", "pulses",
+        "-", "1",
+    ])
 }
 
 fn faulty_value(random: &mut Random, plan: &Plan, lines: &mut [String]) {
-    let texts = ["", "-", "F", "F,5", "F,5,0,0", "f,5,0", "X,5,0", "F,05,0", "F,64,65536", "5", "5,8,0", "5,08", "64,x", "5,-", ",", ",,"];
+    let texts = [
+        "",
+        "-",
+        "F",
+        "F,5",
+        "F,5,0,0",
+        "f,5,0",
+        "X,5,0",
+        "F,05,0",
+        "F,64,65536",
+        "5",
+        "5,8,0",
+        "5,08",
+        "64,x",
+        "5,-",
+        ",",
+        ",,",
+    ];
     let line = (7 + random.below(plan.list.len())).min(lines.len() - 1);
     let value = match random.below(5) {
         0 => random.pick(&texts).to_string(),

@@ -43,7 +43,7 @@ fn of_sort(random: &mut Random, sort: Sort) -> Vec<u8> {
         }
         Sort::Adversarial => {
             let plan = Plan::with_marked(random);
-            let shots = random.below(5) + 1;
+            let shots = random.below(9) + 1;
             text_of(plan.header(), adversarial_acts(random, &plan, shots))
         }
         Sort::FaultyActs => {

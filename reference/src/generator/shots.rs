@@ -53,9 +53,12 @@ pub fn adversarial(random: &mut Random, plan: &Plan, shot: u16) -> Lines {
     let mut scheme = Scheme { plan, sender, schedule: Schedule::new() };
     match plan.style {
         Style::Seal => scheme.seals(random),
+        Style::Echo if marked_sends && random.once_in(2) => scheme.edge(random),
         Style::Echo => scheme.echoes(random),
     }
-    scheme.noise(random);
+    if !random.once_in(3) {
+        scheme.noise(random);
+    }
     for frames in scheme.schedule.values_mut() {
         random.shuffle(frames);
     }
@@ -67,6 +70,30 @@ struct Scheme<'a> {
     plan: &'a Plan,
     sender: Controller,
     schedule: Schedule,
+}
+
+/// When the frames of a triple are sent, and from whom its i-frame comes.
+struct Timing {
+    inits: Vec<Phase>,
+    echo: Phase,
+    from: Controller,
+}
+
+impl Timing {
+    fn right(triple: Triple) -> Timing {
+        Timing { inits: vec![2 * triple.round - 1], echo: 2 * triple.round, from: triple.origin }
+    }
+
+    fn put_off(&mut self, random: &mut Random, marked: &[Controller]) {
+        match random.below(6) {
+            0 => self.inits[0] += 1,
+            1 => self.inits[0] -= 1,
+            2 => self.inits.push(self.inits[0] - 1),
+            3 => self.echo += 1,
+            4 => self.echo -= 1,
+            _ => self.from = random.pick(marked),
+        }
+    }
 }
 
 impl Scheme<'_> {
@@ -106,7 +133,8 @@ impl Scheme<'_> {
     fn chain(&self, random: &mut Random, place: u16) -> Vec<Triple> {
         let others: Vec<Controller> =
             self.plan.marked.iter().copied().filter(|&marked| marked != self.sender).collect();
-        let more = random.below(others.len().min(usize::from(self.plan.t)) + 1);
+        let most = others.len().min(usize::from(self.plan.t));
+        let more = if random.once_in(2) { most } else { random.below(most + 1) };
         let mut origins = vec![self.sender];
         origins.extend(random.some_of(&others, more));
         let rounds = 1..;
@@ -150,6 +178,29 @@ impl Scheme<'_> {
             let late = random.once_in(2);
             for triple in self.chain(random, place) {
                 self.support(random, triple, late);
+            }
+        }
+    }
+
+    /// Just enough frames for a place of the sender's, or one frame off: too early, too late, or from another.
+    fn edge(&mut self, random: &mut Random) {
+        let place = random.below(self.plan.list.len()) as u16;
+        let chain = self.chain(random, place);
+        let off = random.below(2 * chain.len());
+        let (n, t, m) = (usize::from(self.plan.n), usize::from(self.plan.t), self.plan.marked.len());
+        for (index, triple) in chain.into_iter().enumerate() {
+            let listeners = random.pick(&[t + 1 - m, n - t - m, n - m]);
+            let to = random.some_of(&self.plan.correct, listeners);
+            let mut timing = Timing::right(triple);
+            if index == off {
+                timing.put_off(random, &self.plan.marked);
+            }
+            let last = self.plan.last_phase();
+            for init in timing.inits {
+                self.inject(init.clamp(1, last), timing.from, &to, Letter::Init, triple);
+            }
+            for from in self.plan.marked.clone() {
+                self.inject(timing.echo.clamp(1, last), from, &self.plan.correct, Letter::Echo, triple);
             }
         }
     }
