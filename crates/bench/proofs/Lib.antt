@@ -5,4 +5,3 @@ pub mod Charges
 pub mod Unions
 pub mod Refusing
 pub mod Turning
-pub mod Playing

@@ -1,4 +1,3 @@
 pub mod Tables
 pub mod Inner
 pub mod Views
-pub mod Checks

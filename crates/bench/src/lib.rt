@@ -1,7 +1,6 @@
 // The bench: it runs shots over any carriage, which it knows by its contracts alone, and keeps every correct
 // controller's extracted set and register.
 mod charging;
-mod checks;
 mod moments;
 mod offers;
 mod places;
@@ -10,8 +9,5 @@ mod shots;
 mod state;
 mod tallies;
 
-pub use checks::sender_believed;
-pub use checks::tallies_agree;
-pub use checks::verdicts_agree;
 pub use state::Bench;
 pub use state::Unopened;

@@ -1,3 +1,5 @@
-pub mod Stretches
+pub mod Moving
+pub mod Joining
+pub mod Asking
 pub mod Agreeing
 pub mod Retired

@@ -13,7 +13,7 @@ use Rattle.carriage.specs.declared.meaning.Carriage.{Ghosts as Account}
 use Rattle.laboratory.specs.Retiring.{PassedOnce, Retires}
 use Rattle.laboratory.specs.declared.readings.Passage.{Passage}
 use Rattle.laboratory.proofs.Agreeing.{Seen, nothing, then, tally-by}
-use Rattle.laboratory.proofs.Stretches.{joined, closings-joined}
+use Rattle.laboratory.proofs.Joining.{joined, closings-joined}
 
 module _ {C K : Type 0} (account : Account C) (rules : Rules K) (q b : ℕ) where
   -- a run from u to w, with the views just before its closes and what q showed there
@@ -25,11 +25,10 @@ module _ {C K : Type 0} (account : Account C) (rules : Rules K) (q b : ℕ) wher
     pub seen : Seen account q before ds
 
   pub first-pass : {u v : View C} {p : Passage} → PassedOnce account rules q b p u v → Sofar u v (p .verdict ∷ [])
-  first-pass a = let c = a .closed in record { events = c .events; run = c .run; before = c .before ∷ []; are = c .once; seen = then (c .shown) nothing }
+  first-pass c = record { events = c .events; run = c .run; before = c .before ∷ []; are = c .once; seen = then (c .shown) nothing }
 
   pub next-pass : {u v w : View C} {p : Passage} {ds : List Verdict} → Sofar u v ds → PassedOnce account rules q b p v w → Sofar u w (p .verdict ∷ ds)
-  next-pass s a =
-      let c = a .closed in
+  next-pass s c =
       record {
         events = c .events ++ s .events;
         run = joined (s .run) (c .run);

@@ -1,10 +1,13 @@
 // A whole shot: begun, its frames injected, every phase turned.
+ghost use Rattle.agreement.specs.Refusals.{beginFault};
 ghost use Rattle.agreement.specs.Views.{rulesOf};
 ghost use Rattle.bench.specs.Views.{viewOf};
-ghost use Rattle.laboratory.specs.Passing.{Passed, Led, Closed};
+ghost use Rattle.laboratory.specs.Passing.{Passed, Turnable, Played};
+ghost use Rattle.std.specs.Options.{mapped};
+ghost use Rattle.std.specs.Results.{errPart};
 ghost use Rattle.std.specs.Vec.{made};
+ghost use mathlib.Core.Path.{_≡_};
 use agreement::BenchFault;
-use agreement::Verdict;
 use bench::Bench;
 use carriage::Carriage;
 use carriage::Frame;
@@ -20,50 +23,37 @@ pub struct Order<'a, K> {
 
 // Injects what is taken of the frames.
 fn inject_all<C: Carriage>(bench: &mut Bench<C>, frames: &[Frame])
-    ensures { λ _. ⌜ Passed C·Carriage (viewOf (now (bench .entry))) (viewOf (now (bench .exit))) ⌝ }
+    ensures { λ _. ⌜ Passed C·Carriage (viewOf (now (bench .entry))) 0 (viewOf (now (bench .exit))) ⌝ }
 {
     for frame in frames {
         let _ = bench.inject(*frame);
     }
 }
 
-// Turns every phase of a shot just begun.
-fn turn_all<C: Carriage>(bench: &mut Bench<C>) -> Result<(), BenchFault>
-    ensures { λ r. ⌜ made r (λ _. Passed C·Carriage (viewOf (now (bench .entry))) (viewOf (now (bench .exit)))) ⌝ }
+// Turns the first phases of a shot just begun. None of these turns is refused.
+fn turn_all<C: Carriage>(bench: &mut Bench<C>, count: u16)
+    requires { ⌜ Turnable C·Carriage (viewOf (now bench)) count ⌝ }
+    ensures { λ _. ⌜ Passed C·Carriage (viewOf (now (bench .entry))) count (viewOf (now (bench .exit))) ⌝ }
 {
-    let last = 2 * (bench.group().t() + 1);
-    for phase in 0..last {
-        bench.turn(phase + 1)?;
+    for k in 0..count {
+        let Ok(()) = bench.turn(k + 1) else {
+            unreachable()
+        };
     }
-    Ok(())
 }
 
-// Begins the shot, injects its frames and turns all its phases.
+// Begins the shot, injects its frames and turns all its phases. Only the begin can be refused.
 pub(crate) fn play<C: Carriage, K: Kind>(
     bench: &mut Bench<C>,
     list: &[K],
     order: &Order<'_, K>,
 ) -> Result<(), BenchFault>
-    ensures { λ r. ⌜ made r (λ _. Led C·Carriage (rulesOf (K·Kind .same) (K·Kind .charge) (now (list .entry))) (viewOf (now (bench .entry))) (viewOf (now (bench .exit)))) ⌝ }
+    ensures refusal { λ r. ⌜ errPart r ≡ beginFault C·Carriage (rulesOf (K·Kind .same) (K·Kind .charge) (now (list .entry))) (viewOf (now (bench .entry))) (now (order .entry) .sender) (mapped now (now (order .entry) .value)) ⌝ }
+    ensures played { λ r. ⌜ made r (λ _. Played C·Carriage (rulesOf (K·Kind .same) (K·Kind .charge) (now (list .entry))) (now (order .entry) .sender) (mapped now (now (order .entry) .value)) (viewOf (now (bench .entry))) (viewOf (now (bench .exit)))) ⌝ }
 {
     bench.begin(list, order.sender, order.value)?;
     inject_all(bench, order.frames);
-    turn_all(bench)?;
+    let turns = 2 * (bench.group().t() + 1);
+    turn_all(bench, turns);
     Ok(())
-}
-
-// Plays a whole shot and closes it; the answer is what controller q showed just before the close.
-pub(crate) fn play_and_close<C: Carriage, K: Kind>(
-    bench: &mut Bench<C>,
-    list: &[K],
-    order: &Order<'_, K>,
-    q: u16,
-) -> Result<Verdict, BenchFault>
-    ensures { λ r. ⌜ made r (λ d. Closed C·Carriage (rulesOf (K·Kind .same) (K·Kind .charge) (now (list .entry))) q d (viewOf (now (bench .entry))) (viewOf (now (bench .exit)))) ⌝ }
-{
-    play(bench, list, order)?;
-    let verdict = bench.verdict(q)?;
-    let shot = bench.closed() + 1;
-    bench.close(list, shot)?;
-    Ok(verdict)
 }

@@ -1,5 +1,5 @@
 use Rattle.laboratory.specs.Passing.{Passed}
-use Rattle.laboratory.proofs.Stretches.{inject-more}
+use Rattle.laboratory.proofs.Moving.{inject-more}
 use Rattle.laboratory.proofs.passes.inject_all.Needs as need
 
 pub loop-frame-holds : need.loop-frame-holds
