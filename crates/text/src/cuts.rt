@@ -1,0 +1,47 @@
+// The smallest parts of a line: pieces between separators, and decimal numbers.
+ghost use Rattle.std.specs.Options.{Cases};
+ghost use Rattle.std.specs.declared.option.Option.the-variants.{None, Some};
+ghost use Rattle.text.specs.Cuts.{cutAt, digitsFrom, decode};
+ghost use mathlib.Core.Path.{_≡_};
+
+// What stands before the first `mark` and what stands after it, if there is one.
+pub fn cut(s: &[u8], mark: u8) -> Option<(&[u8], &[u8])>
+    ensures { λ r. ⌜ Cases r (cutAt mark (now (s .entry)) ≡ None) (λ p. cutAt mark (now (s .entry)) ≡ Some (p .0 .now, p .1 .now)) ⌝ }
+{
+    for (i, b) in s.iter().enumerate() {
+        if *b == mark {
+            return Some((&s[0..i], &s[i + 1..]));
+        }
+    }
+    None
+}
+
+// The number that a row of digits writes, if it is at most 65535.
+fn digits(field: &[u8]) -> Option<u16>
+    ensures { λ r. ⌜ r ≡ digitsFrom 0 (now (field .entry)) ⌝ }
+{
+    let mut n: u32 = 0;
+    for b in field {
+        if *b < b'0' || *b > b'9' {
+            return None;
+        }
+        n = n * 10 + (*b - b'0') as u32;
+        if n > 65535 {
+            return None;
+        }
+    }
+    Some(n as u16)
+}
+
+// A number of the format: decimal, at most 65535, no sign and no leading zero.
+pub fn number(field: &[u8]) -> Option<u16>
+    ensures { λ r. ⌜ r ≡ decode (now (field .entry)) ⌝ }
+{
+    if field.is_empty() {
+        return None;
+    }
+    if field[0] == b'0' && field.len() > 1 {
+        return None;
+    }
+    digits(field)
+}
