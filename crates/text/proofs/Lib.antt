@@ -1,2 +1,4 @@
 pub mod Pieces
 pub mod Decimal
+pub mod Fields
+pub mod Back

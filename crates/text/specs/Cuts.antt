@@ -2,6 +2,7 @@
 use Prim.Native.Nat.{ℕ, _+_, _-_, _*_}
 use mathlib.Core.Bool.{Bool, _&&_, _||_, cond}
 use mathlib.Core.List.{List, [], _∷_}
+use mathlib.Core.Path.{_≡_}
 use lib.Dec.{eqb, leb, ltb}
 use lib.ListN.{length, getD}
 use Rattle.std.specs.Options.{mapped}
@@ -24,3 +25,24 @@ digitsFrom n (c ∷ cs) = cond (isDigit c && ltb (n * 10 + (c - 48)) 65536) (dig
 -- a number is decimal, at most 65535, and begins with 0 only where it is 0
 abbrev pub decode : List ℕ → Option ℕ
 decode ds = cond (eqb (length ds) 0 || (eqb (getD ds 0 0) 48 && ltb 1 (length ds))) None (digitsFrom 0 ds)
+
+abbrev pub bind : {A B : Type 0} → Option A → (A → Option B) → Option B
+bind None f = None
+bind (Some x) f = f x
+
+-- the one byte of a field that holds one
+abbrev pub single : List ℕ → Option ℕ
+single ds = cond (eqb (length ds) 1) (Some (getD ds 0 0)) None
+
+-- a number, a comma (44), and the rest
+abbrev pub numberField : List ℕ → Option (ℕ × List ℕ)
+numberField s = bind (cutAt 44 s) (λ p. bind (decode (p .0)) (λ n. Some (n, p .1)))
+
+-- a letter, a comma, and the rest
+abbrev pub letterField : List ℕ → Option (ℕ × List ℕ)
+letterField s = bind (cutAt 44 s) (λ p. bind (single (p .0)) (λ c. Some (c, p .1)))
+
+-- the byte c stands nowhere in the list
+abbrev pub Lacks : ℕ → List ℕ → Type 0
+Lacks c [] = Unit {0}
+Lacks c (x ∷ xs) = (x ≡ c → ⊥) × Lacks c xs

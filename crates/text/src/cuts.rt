@@ -1,7 +1,7 @@
 // The smallest parts of a line: pieces between separators, and decimal numbers.
 ghost use Rattle.std.specs.Options.{Cases};
 ghost use Rattle.std.specs.declared.option.Option.the-variants.{None, Some};
-ghost use Rattle.text.specs.Cuts.{cutAt, digitsFrom, decode};
+ghost use Rattle.text.specs.Cuts.{cutAt, digitsFrom, decode, single, numberField, letterField};
 ghost use mathlib.Core.Path.{_≡_};
 
 // What stands before the first `mark` and what stands after it, if there is one.
@@ -44,4 +44,32 @@ pub fn number(field: &[u8]) -> Option<u16>
         return None;
     }
     digits(field)
+}
+
+// A number, the comma after it, and what stands behind that.
+pub fn number_field(s: &[u8]) -> Option<(u16, &[u8])>
+    ensures { λ r. ⌜ Cases r (numberField (now (s .entry)) ≡ None) (λ p. numberField (now (s .entry)) ≡ Some (p .0, p .1 .now)) ⌝ }
+{
+    let (field, rest) = cut(s, b',')?;
+    let n = number(field)?;
+    Some((n, rest))
+}
+
+// The letter of a field that holds one byte.
+fn letter(field: &[u8]) -> Option<char>
+    ensures { λ r. ⌜ r ≡ single (now (field .entry)) ⌝ }
+{
+    if field.len() != 1 {
+        return None;
+    }
+    Some(field[0] as char)
+}
+
+// A letter, the comma after it, and what stands behind that.
+pub fn letter_field(s: &[u8]) -> Option<(char, &[u8])>
+    ensures { λ r. ⌜ Cases r (letterField (now (s .entry)) ≡ None) (λ p. letterField (now (s .entry)) ≡ Some (p .0, p .1 .now)) ⌝ }
+{
+    let (field, rest) = cut(s, b',')?;
+    let c = letter(field)?;
+    Some((c, rest))
 }

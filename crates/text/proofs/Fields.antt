@@ -1,0 +1,92 @@
+-- What a cut and a field say of the bytes that they come from, and back. Assumes nothing.
+use mathlib.Core.Path.{_≡_, refl, sym, ap, subst, _∙_}
+use mathlib.Core.Bool.{Bool, true, false, cond}
+use mathlib.Core.List.{List, [], _∷_, _++_}
+use Prim.Native.Nat.{ℕ, zero, suc, _+_, _<_, _≤_}
+use native.Mathlib.Omega.{arith}
+use lib.Dec.{eqb}
+use lib.ListN.{length, getD}
+use Rattle.std.specs.Options.{mapped}
+use Rattle.std.specs.Text.{In}
+use Rattle.std.specs.Written.{decimal}
+use Rattle.std.specs.declared.option.Option.{Option}
+use Rattle.std.specs.declared.option.Option.the-variants.{None, Some}
+use Rattle.std.proofs.shelf.Tests.{cond-true, cond-false, eq-eqb, ne-eqb, eqb-true}
+use Rattle.std.proofs.shelf.Decimals.{length-decimal-le}
+use Rattle.text.specs.Cuts.{cutAt, decode, bind, single, numberField, letterField, Lacks}
+use Rattle.text.proofs.Decimal.{decode-back, decode-forth, decimal-lacks}
+
+pub bind-back : {A B : Type 0} (o : Option A) (f : A → Option B) (y : B) → bind o f ≡ Some y → (x : A) × (o ≡ Some x) × (f x ≡ Some y)
+bind-back None f y e = let z : _≡_ {A = ℕ} 0 1 = cc in absurd (omega arith)
+bind-back (Some x) f y e = (x, refl, e)
+
+pub bind-forth : {A B : Type 0} {o : Option A} (f : A → Option B) {x : A} → o ≡ Some x → bind o f ≡ f x
+bind-forth f e = ap (λ o. bind o f) e
+
+pub cut-back : (c : ℕ) (s : List ℕ) (p : List ℕ × List ℕ) → cutAt c s ≡ Some p → (s ≡ p .0 ++ c ∷ p .1) × Lacks c (p .0)
+cut-back c [] p e = let z : _≡_ {A = ℕ} 0 1 = cc in absurd (omega arith)
+cut-back c (x ∷ xs) p e = go (eqb x c) refl (cutAt c xs) refl e (cut-back c xs)
+  where
+    go : (b : Bool) → eqb x c ≡ b → (o : Option (List ℕ × List ℕ)) → cutAt c xs ≡ o → cond b (Some ([], xs)) (mapped (λ p. (x ∷ p .0, p .1)) o) ≡ Some p
+        → ((q : List ℕ × List ℕ) → cutAt c xs ≡ Some q → (xs ≡ q .0 ++ c ∷ q .1) × Lacks c (q .0))
+        → (x ∷ xs ≡ p .0 ++ c ∷ p .1) × Lacks c (p .0)
+    go true t o u f rest =
+        let q : _≡_ {A = List ℕ × List ℕ} ([], xs) p = cc in
+        subst (λ (p : List ℕ × List ℕ). (x ∷ xs ≡ p .0 ++ c ∷ p .1) × Lacks c (p .0)) q (ap (λ y. y ∷ xs) (eqb-true x c t), tt)
+    go false t None u f rest = let z : _≡_ {A = ℕ} 0 1 = cc in absurd (omega arith)
+    go false t (Some r) u f rest =
+        let q : _≡_ {A = List ℕ × List ℕ} (x ∷ r .0, r .1) p = cc in
+        let h = rest r u in
+        let other : x ≡ c → ⊥ = λ e. let z : true ≡ false = sym (eq-eqb x c e) ∙ t in let y : _≡_ {A = ℕ} 0 1 = cc in omega arith in
+        subst (λ (p : List ℕ × List ℕ). (x ∷ xs ≡ p .0 ++ c ∷ p .1) × Lacks c (p .0)) q (ap (λ ys. x ∷ ys) (h .0), (other, h .1))
+
+pub cut-forth : (c : ℕ) (a b : List ℕ) → Lacks c a → cutAt c (a ++ c ∷ b) ≡ Some (a, b)
+cut-forth c [] b h = cond-true (eqb c c) _ _ (eq-eqb c c refl)
+cut-forth c (x ∷ a) b h = cond-false (eqb x c) _ _ (ne-eqb x c (h .0)) ∙ ap (mapped (λ p. (x ∷ p .0, p .1))) (cut-forth c a b (h .1))
+
+pub lacks-append : (c : ℕ) (a b : List ℕ) → Lacks c a → Lacks c b → Lacks c (a ++ b)
+lacks-append c [] b h k = k
+lacks-append c (x ∷ a) b h k = (h .0, lacks-append c a b (h .1) k)
+
+lacks-from : (c : ℕ) (s : List ℕ) → ((k : ℕ) → k < length s → getD s k 0 ≡ c → ⊥) → Lacks c s
+lacks-from c [] h = tt
+lacks-from c (x ∷ xs) h = (h 0 (omega arith), lacks-from c xs (λ k l. h (suc k) (omega arith)))
+
+pub lacks-decimal : (c n : ℕ) → n < 65536 → (In 48 57 c → ⊥) → Lacks c (decimal n)
+lacks-decimal c n l other = lacks-from c (decimal n) (decimal-lacks n c l other)
+
+pub length-number : (n : ℕ) → n < 65536 → length (decimal n) ≤ 5
+length-number n l = length-decimal-le 5 n (omega arith) (omega arith) (omega arith)
+
+pub number-field-back : (s : List ℕ) (p : ℕ × List ℕ) → numberField s ≡ Some p → (s ≡ decimal (p .0) ++ 44 ∷ p .1) × (p .0 < 65536)
+number-field-back s p e =
+    let a = bind-back (cutAt 44 s) _ _ e in
+    let b = bind-back (decode (a .0 .0)) _ _ (a .2) in
+    let q : _≡_ {A = ℕ × List ℕ} (b .0, a .0 .1) p = cc (b .2) in
+    let d = decode-back _ _ (b .1) in
+    subst (λ (p : ℕ × List ℕ). (s ≡ decimal (p .0) ++ 44 ∷ p .1) × (p .0 < 65536)) q (cut-back 44 s (a .0) (a .1) .0 ∙ ap (λ x. x ++ 44 ∷ a .0 .1) (d .0), d .1)
+
+pub number-field-forth : (n : ℕ) (rest : List ℕ) → n < 65536 → numberField (decimal n ++ 44 ∷ rest) ≡ Some (n, rest)
+number-field-forth n rest l = bind-forth _ (cut-forth 44 (decimal n) rest (lacks-decimal 44 n l (λ h. omega arith))) ∙ bind-forth _ (decode-forth n l)
+
+single-back : (ds : List ℕ) (c : ℕ) → single ds ≡ Some c → ds ≡ c ∷ []
+single-back ds c e = go (eqb (length ds) 1) refl e
+  where
+    one : (xs : List ℕ) → length xs ≡ 1 → xs ≡ getD xs 0 0 ∷ []
+    one [] h = absurd (omega arith)
+    one (x ∷ []) h = refl
+    one (x ∷ (y ∷ zs)) h = absurd (omega arith)
+
+    go : (b : Bool) → eqb (length ds) 1 ≡ b → cond b (Some (getD ds 0 0)) None ≡ Some c → ds ≡ c ∷ []
+    go true t f = let q : getD ds 0 0 ≡ c = cc in one ds (eqb-true _ 1 t) ∙ ap (λ x. x ∷ []) q
+    go false t f = let z : _≡_ {A = ℕ} 0 1 = cc in absurd (omega arith)
+
+pub letter-field-back : (s : List ℕ) (p : ℕ × List ℕ) → letterField s ≡ Some p → s ≡ p .0 ∷ 44 ∷ p .1
+letter-field-back s p e =
+    let a = bind-back (cutAt 44 s) _ _ e in
+    let b = bind-back (single (a .0 .0)) _ _ (a .2) in
+    let q : _≡_ {A = ℕ × List ℕ} (b .0, a .0 .1) p = cc (b .2) in
+    cut-back 44 s (a .0) (a .1) .0 ∙ ap (λ x. x ++ 44 ∷ a .0 .1) (single-back _ _ (b .1)) ∙ ap (λ (p : ℕ × List ℕ). p .0 ∷ 44 ∷ p .1) q
+
+pub letter-field-forth : (c : ℕ) (rest : List ℕ) → (c ≡ 44 → ⊥) → letterField (c ∷ 44 ∷ rest) ≡ Some (c, rest)
+letter-field-forth c rest other = bind-forth _ (cut-forth 44 (c ∷ []) rest (other, tt))
