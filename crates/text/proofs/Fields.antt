@@ -1,6 +1,6 @@
 -- What a cut and a field say of the bytes that they come from, and back. Assumes nothing.
 use mathlib.Core.Path.{_≡_, refl, sym, ap, subst, _∙_}
-use mathlib.Core.Bool.{Bool, true, false, cond}
+use mathlib.Core.Bool.{Bool, true, false, not, _&&_, cond}
 use mathlib.Core.List.{List, [], _∷_, _++_}
 use Prim.Native.Nat.{ℕ, zero, suc, _+_, _<_, _≤_}
 use native.Mathlib.Omega.{arith}
@@ -11,9 +11,12 @@ use Rattle.std.specs.Text.{In}
 use Rattle.std.specs.Written.{decimal}
 use Rattle.std.specs.declared.option.Option.{Option}
 use Rattle.std.specs.declared.option.Option.the-variants.{None, Some}
-use Rattle.std.proofs.shelf.Tests.{cond-true, cond-false, eq-eqb, ne-eqb, eqb-true}
+use Rattle.std.proofs.shelf.Tests.{cond-true, cond-false, eq-eqb, ne-eqb, eqb-true, eqb-false, not-true, and-parts}
+use Rattle.std.specs.shelf.Text.{sameBytes}
+use Rattle.std.proofs.shelf.Equals.{sameBytes-decides}
+use mathlib.Core.Logic.{_⊎_, inl, inr}
 use Rattle.std.proofs.shelf.Decimals.{length-decimal-le}
-use Rattle.text.specs.Cuts.{cutAt, decode, bind, single, numberField, letterField, Lacks}
+use Rattle.text.specs.Cuts.{cutAt, decode, bind, single, numberField, letterField, Lacks, keyed, there}
 use Rattle.text.proofs.Decimal.{decode-back, decode-forth, decimal-lacks}
 
 pub bind-back : {A B : Type 0} (o : Option A) (f : A → Option B) (y : B) → bind o f ≡ Some y → (x : A) × (o ≡ Some x) × (f x ≡ Some y)
@@ -51,6 +54,15 @@ lacks-append c (x ∷ a) b h k = (h .0, lacks-append c a b (h .1) k)
 lacks-from : (c : ℕ) (s : List ℕ) → ((k : ℕ) → k < length s → getD s k 0 ≡ c → ⊥) → Lacks c s
 lacks-from c [] h = tt
 lacks-from c (x ∷ xs) h = (h 0 (omega arith), lacks-from c xs (λ k l. h (suc k) (omega arith)))
+
+-- a text that is known can be looked through
+abbrev pub lacks : ℕ → List ℕ → Bool
+lacks c [] = true
+lacks c (x ∷ xs) = not (eqb x c) && lacks c xs
+
+pub lacks-by : (c : ℕ) (s : List ℕ) → lacks c s ≡ true → Lacks c s
+lacks-by c [] e = tt
+lacks-by c (x ∷ xs) e = let p = and-parts _ _ e in (eqb-false x c (not-true _ (p .0)), lacks-by c xs (p .1))
 
 pub lacks-decimal : (c n : ℕ) → n < 65536 → (In 48 57 c → ⊥) → Lacks c (decimal n)
 lacks-decimal c n l other = lacks-from c (decimal n) (decimal-lacks n c l other)
@@ -90,3 +102,17 @@ letter-field-back s p e =
 
 pub letter-field-forth : (c : ℕ) (rest : List ℕ) → (c ≡ 44 → ⊥) → letterField (c ∷ 44 ∷ rest) ≡ Some (c, rest)
 letter-field-forth c rest other = bind-forth _ (cut-forth 44 (c ∷ []) rest (other, tt))
+
+pub keyed-back : (key s b : List ℕ) → keyed key s ≡ Some b → s ≡ key ++ 61 ∷ b
+keyed-back key s b e =
+    let a = bind-back (cutAt 61 s) _ _ e in
+    go (sameBytes (a .0 .0) key) (a .0) refl (a .1) (a .2)
+  where
+    go : (t : Bool) (p : List ℕ × List ℕ) → sameBytes (p .0) key ≡ t → cutAt 61 s ≡ Some p → cond t (Some (p .1)) None ≡ Some b → s ≡ key ++ 61 ∷ b
+    go true p u c f = let q : p .1 ≡ b = cc in cut-back 61 s p c .0 ∙ (λ i. sameBytes-decides (p .0) key .0 u i ++ 61 ∷ q i)
+    go false p u c f = let z : _≡_ {A = ℕ} 0 1 = cc in absurd (omega arith)
+
+-- either what is there was used, or the other
+pub there-back : {A B : Type 0} (o : Option A) (f : A → B) (d y : B) → there o f d ≡ y → ((x : A) × (o ≡ Some x) × (f x ≡ y)) ⊎ (d ≡ y)
+there-back None f d y e = inr e
+there-back (Some x) f d y e = inl (x, refl, e)

@@ -2,3 +2,4 @@ pub mod Pieces
 pub mod Decimal
 pub mod Fields
 pub mod Back
+pub mod ActLines

@@ -3,6 +3,7 @@ use Prim.Native.Nat.{ℕ, _+_, _-_, _*_}
 use mathlib.Core.Bool.{Bool, _&&_, _||_, cond}
 use mathlib.Core.List.{List, [], _∷_}
 use mathlib.Core.Path.{_≡_}
+use Rattle.std.specs.shelf.Text.{sameBytes}
 use lib.Dec.{eqb, leb, ltb}
 use lib.ListN.{length, getD}
 use Rattle.std.specs.Options.{mapped}
@@ -46,3 +47,12 @@ letterField s = bind (cutAt 44 s) (λ p. bind (single (p .0)) (λ c. Some (c, p 
 abbrev pub Lacks : ℕ → List ℕ → Type 0
 Lacks c [] = Unit {0}
 Lacks c (x ∷ xs) = (x ≡ c → ⊥) × Lacks c xs
+
+-- what stands behind the key and its equals sign (61)
+abbrev pub keyed : List ℕ → List ℕ → Option (List ℕ)
+keyed key s = bind (cutAt 61 s) (λ p. cond (sameBytes (p .0) key) (Some (p .1)) None)
+
+-- f of what is there, else d
+abbrev pub there : {A B : Type 0} → Option A → (A → B) → B → B
+there None f d = d
+there (Some x) f d = f x

@@ -1,7 +1,9 @@
 // The smallest parts of a line: pieces between separators, and decimal numbers.
 ghost use Rattle.std.specs.Options.{Cases};
 ghost use Rattle.std.specs.declared.option.Option.the-variants.{None, Some};
-ghost use Rattle.text.specs.Cuts.{cutAt, digitsFrom, decode, single, numberField, letterField};
+ghost use Rattle.text.specs.Cuts.{cutAt, digitsFrom, decode, single, numberField, letterField, keyed};
+ghost use Rattle.std.specs.shelf.Text.{sameBytes};
+ghost use mathlib.Core.List.{[], _∷_};
 ghost use mathlib.Core.Path.{_≡_};
 
 // What stands before the first `mark` and what stands after it, if there is one.
@@ -72,4 +74,28 @@ pub fn letter_field(s: &[u8]) -> Option<(char, &[u8])>
     let (field, rest) = cut(s, b',')?;
     let c = letter(field)?;
     Some((c, rest))
+}
+
+fn same(a: &[u8], b: &[u8]) -> bool
+    ensures { λ r. ⌜ r ≡ sameBytes (now (a .entry)) (now (b .entry)) ⌝ }
+{
+    a == b
+}
+
+// Whether the field is the dash that stands for nothing.
+pub fn is_dash(field: &[u8]) -> bool
+    ensures { λ r. ⌜ r ≡ sameBytes (now (field .entry)) (45 ∷ []) ⌝ }
+{
+    same(field, b"-")
+}
+
+// What stands behind the key and its equals sign, if the line has this key.
+pub fn keyed_line<'a>(line: &'a [u8], key: &[u8]) -> Option<&'a [u8]>
+    ensures { λ r. ⌜ Cases r (keyed (now (key .entry)) (now (line .entry)) ≡ None) (λ b. keyed (now (key .entry)) (now (line .entry)) ≡ Some (b .now)) ⌝ }
+{
+    let (front, body) = cut(line, b'=')?;
+    if !same(front, key) {
+        return None;
+    }
+    Some(body)
 }
