@@ -44,10 +44,10 @@ letter-forth Echo = refl
 letter-forth Seal = refl
 
 -- a frame's letter is no separator
-letter-high : (l : Letter) → 100 < letterByte l
-letter-high Init = omega arith
-letter-high Echo = omega arith
-letter-high Seal = omega arith
+pub letter-range : (l : Letter) → (100 < letterByte l) × (letterByte l < 128)
+letter-range Init = omega arith
+letter-range Echo = omega arith
+letter-range Seal = omega arith
 
 inject-back : (s : List ℕ) (x : Injection) → injectReads s ≡ Some x → (codes "inject=" ++ s ≡ injectLine x) × injectFits x
 inject-back s x h =
@@ -73,7 +73,7 @@ inject-forth : (x : Injection) → injectFits x
     → injectReads (decimal (x .from) ++ 44 ∷ (decimal (x .to) ++ 44 ∷ (letterByte (x .letter) ∷ 44 ∷ (decimal (x .triple .origin) ++ 44 ∷ (decimal (x .triple .round) ++ 44 ∷ decimal (x .triple .place)))))) ≡ Some x
 inject-forth x f =
     bind-forth _ (number-field-forth (x .from) _ (f .0)) ∙ bind-forth _ (number-field-forth (x .to) _ (f .1))
-    ∙ bind-forth _ (letter-field-forth (letterByte (x .letter)) _ (λ e. omega (arith, letter-high (x .letter)))) ∙ bind-forth _ (letter-forth (x .letter))
+    ∙ bind-forth _ (letter-field-forth (letterByte (x .letter)) _ (λ e. omega (arith, letter-range (x .letter)))) ∙ bind-forth _ (letter-forth (x .letter))
     ∙ bind-forth _ (number-field-forth (x .triple .origin) _ (f .2)) ∙ bind-forth _ (number-field-forth (x .triple .round) _ (f .3)) ∙ bind-forth _ (decode-forth (x .triple .place) (f .4))
 
 module _ {K : Type 0} (shows : K → List ℕ) (reads : List ℕ → Option (Result K ValueFault)) (fits : K → Type 0) where
@@ -156,7 +156,7 @@ lacks-inject x f =
     let comma : (_≡_ {A = ℕ} 44 10 → ⊥) = λ e. omega arith in
     let tail : Lacks 10 (decimal (x .triple .round) ++ 44 ∷ decimal (x .triple .place)) = lacks-append 10 (decimal (x .triple .round)) _ (num _ (f .3)) (comma, num _ (f .4)) in
     let rest : Lacks 10 (decimal (x .triple .origin) ++ 44 ∷ (decimal (x .triple .round) ++ 44 ∷ decimal (x .triple .place))) = lacks-append 10 (decimal (x .triple .origin)) _ (num _ (f .2)) (comma, tail) in
-    let high = letter-high (x .letter) in
+    let high = letter-range (x .letter) in
     lacks-append 10 (codes "inject=") _ plain (lacks-append 10 (decimal (x .from)) _ (num _ (f .0)) (comma, lacks-append 10 (decimal (x .to)) _ (num _ (f .1)) (comma, ((λ (e : letterByte (x .letter) ≡ 10). omega arith), (comma, rest)))))
   where
     plain : Lacks 10 (codes "inject=")

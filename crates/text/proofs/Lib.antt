@@ -3,3 +3,4 @@ pub mod Decimal
 pub mod Fields
 pub mod Back
 pub mod ActLines
+pub mod Standing

@@ -1,3 +1,6 @@
 pub mod Cuts
 pub mod Values
 pub mod Acts
+pub mod Faults
+pub mod Lines
+pub mod Reading

@@ -1,9 +1,12 @@
 // Campaign texts: the reader and the writer of the format, line by line.
 mod acts;
 mod cuts;
+mod faults;
+mod forms;
 mod kinds;
 mod notices;
 mod pulses;
+mod reader;
 
 pub use acts::Act;
 pub use acts::ActDebug;
@@ -15,6 +18,19 @@ pub use acts::Letter;
 pub use acts::LetterDebug;
 pub use acts::LetterPartialEq;
 pub use acts::frame;
+pub use faults::At;
+pub use faults::AtDebug;
+pub use faults::AtPartialEq;
+pub use faults::TextFault;
+pub use faults::TextFaultDebug;
+pub use faults::TextFaultFromGroup;
+pub use faults::TextFaultFromList;
+pub use faults::TextFaultFromValue;
+pub use faults::TextFaultNumber;
+pub use faults::TextFaultPartialEq;
+pub use forms::Form;
+pub use forms::Malformed;
 pub use kinds::Written;
 pub use notices::NoticeWritten;
 pub use pulses::PulseReportWritten;
+pub use reader::Reader;

@@ -1,7 +1,7 @@
 // How acts are read from a line and written to one.
 ghost use Rattle.std.specs.Of.String.{string-bytes};
 ghost use Rattle.std.specs.Vec.{made};
-ghost use Rattle.text.specs.Acts.{letterByte, letterBy, injectReads, injectLine, injectFits, beginsWith, beginReads, actReads, actLine, actFits};
+ghost use Rattle.text.specs.Acts.{letterByte, letterBy, injectReads, injectLine, injectFits, beginsWith, beginReads, actReads, actLine, actFits, valueField, valueFits};
 ghost use mathlib.Core.Path.{_≡_};
 use super::Act;
 use super::Injection;
@@ -111,4 +111,47 @@ pub fn act<K: Written>(line: &[u8]) -> Option<Result<Act<K>, ValueFault>>
     let body = keyed_line(line, b"close")?;
     let shot = number(body)?;
     Some(Ok(Act::Close(shot)))
+}
+
+fn injection_line(x: &Injection, heap: Global) -> Result<String, AllocError>
+    ensures { λ r. ⌜ made r (λ t. (string-bytes t ≡ injectLine (now (x .entry))) × injectFits (now (x .entry))) ⌝ }
+{
+    let letter = frame(x).letter();
+    let from = x.from;
+    let to = x.to;
+    let origin = x.triple.origin;
+    let round = x.triple.round;
+    let place = x.triple.place;
+    format!(heap, "inject={from},{to},{letter},{origin},{round},{place}")
+}
+
+fn value_line<K: Written>(value: &Option<K>, heap: Global) -> Result<String, AllocError>
+    ensures { λ r. ⌜ made r (λ t. (string-bytes t ≡ valueField (K·Written .shows) (now (value .entry))) × valueFits (K·Written .fits) (now (value .entry))) ⌝ }
+{
+    match value {
+        Some(v) => v.written(heap),
+        None => String::from_str(heap, "-"),
+    }
+}
+
+// The line of an act, without its line feed.
+pub fn act_line<K: Written>(act: &Act<K>, heap: Global) -> Result<String, AllocError>
+    ensures { λ r. ⌜ made r (λ t. (string-bytes t ≡ actLine (K·Written .shows) (now (act .entry))) × actFits (K·Written .fits) (now (act .entry))) ⌝ }
+{
+    match act {
+        Act::Begin { sender, value } => {
+            let fields = value_line(value, heap)?;
+            let sender = *sender;
+            format!(heap, "begin={sender},{fields}")
+        }
+        Act::Inject(x) => injection_line(x, heap),
+        Act::Turn(phase) => {
+            let phase = *phase;
+            format!(heap, "turn={phase}")
+        }
+        Act::Close(shot) => {
+            let shot = *shot;
+            format!(heap, "close={shot}")
+        }
+    }
 }

@@ -1,0 +1,10 @@
+// The reader of a campaign text: a lent text, a place in it, and the number of the line that stands there.
+mod guard;
+mod lines;
+
+#[derive(Clone, Copy)]
+pub struct Reader<'a> {
+    text: &'a [u8],
+    place: usize,
+    line: usize,
+}
