@@ -11,6 +11,9 @@ use Rattle.std.specs.Text.{In}
 use Rattle.std.specs.Written.{decimal}
 use Rattle.std.specs.declared.option.Option.{Option}
 use Rattle.std.specs.declared.option.Option.the-variants.{None, Some}
+use Rattle.std.specs.declared.result.Result.{Result}
+use Rattle.std.specs.declared.result.Result.the-variants.{Ok, Err}
+use Rattle.text.specs.Headers.{onResult}
 use Rattle.std.proofs.shelf.Tests.{cond-true, cond-false, eq-eqb, ne-eqb, eqb-true, eqb-false, not-true, and-parts}
 use Rattle.std.specs.shelf.Text.{sameBytes}
 use Rattle.std.proofs.shelf.Equals.{sameBytes-decides}
@@ -116,3 +119,9 @@ keyed-back key s b e =
 pub there-back : {A B : Type 0} (o : Option A) (f : A → B) (d y : B) → there o f d ≡ y → ((x : A) × (o ≡ Some x) × (f x ≡ y)) ⊎ (d ≡ y)
 there-back None f d y e = inr e
 there-back (Some x) f d y e = inl (x, refl, e)
+
+-- an answer that is handed on as it is
+pub same-again : {X E : Type 0} (o : Option (Result X E)) → bind o (λ r. onResult r (λ x. Some (Ok x)) (λ e. Some (Err e))) ≡ o
+same-again None = refl
+same-again (Some (Ok x)) = refl
+same-again (Some (Err e)) = refl

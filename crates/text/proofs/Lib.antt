@@ -4,3 +4,6 @@ pub mod Fields
 pub mod Back
 pub mod ActLines
 pub mod Standing
+pub mod Commas
+pub mod Chains
+pub mod Whole

@@ -4,3 +4,4 @@ pub mod Acts
 pub mod Faults
 pub mod Lines
 pub mod Reading
+pub mod Headers

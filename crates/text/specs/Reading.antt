@@ -8,7 +8,9 @@ use Rattle.std.specs.declared.option.Option.the-variants.{None, Some}
 use Rattle.std.specs.declared.result.Result.{Result}
 use Rattle.std.specs.declared.result.Result.the-variants.{Ok, Err}
 use Rattle.values.specs.declared.faults.ValueFault.{ValueFault}
-use Rattle.text.specs.Cuts.{there}
+use mathlib.Core.Bool.{cond}
+use lib.Dec.{eqb}
+use Rattle.text.specs.Cuts.{there, cutAt}
 use Rattle.text.specs.Lines.{lineIn}
 use Rattle.text.specs.declared.faults.TextFault.{TextFault}
 use Rattle.text.specs.declared.faults.TextFault.the-variants.{Missing, Form, Value}
@@ -33,3 +35,7 @@ ranged r after (Err e) = (Err (Value (record { line = r .line; fault = e })), r)
 -- a line of a form: first it must be there (1), then have the form (2), then its numbers be in range (3)
 abbrev pub taken : {X : Type 0} → (List ℕ → Option (Result X ValueFault)) → Reader → Result X TextFault × Reader
 taken f r = there (lineIn (left r)) (λ p. there (f (p .0)) (ranged r (passed r (p .0))) (Err (Form (r .line)), r)) (Err (Missing (r .line)), r)
+
+-- the reader behind a line of whatever form, or at the end of the text
+abbrev pub skipped : Reader → Reader
+skipped r = there (cutAt 10 (left r)) (λ p. passed r (p .0)) (record { text = r .text; place = length (r .text .now); line = cond (eqb (length (left r)) 0) (r .line) (next (r .line)) })

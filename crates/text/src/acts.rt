@@ -5,6 +5,9 @@ use carriage::TriplePartialEq;
 
 mod lines;
 
+pub use lines::ActLine;
+pub use lines::ActLineForm;
+pub use lines::act_line;
 pub use lines::frame;
 
 // The letters of frames that a campaign can inject: i, e and s.

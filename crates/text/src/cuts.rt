@@ -76,7 +76,7 @@ pub fn letter_field(s: &[u8]) -> Option<(char, &[u8])>
     Some((c, rest))
 }
 
-fn same(a: &[u8], b: &[u8]) -> bool
+pub fn same(a: &[u8], b: &[u8]) -> bool
     ensures { λ r. ⌜ r ≡ sameBytes (now (a .entry)) (now (b .entry)) ⌝ }
 {
     a == b

@@ -1,5 +1,7 @@
 // The reader of a campaign text: a lent text, a place in it, and the number of the line that stands there.
+mod acts;
 mod guard;
+mod header;
 mod lines;
 
 #[derive(Clone, Copy)]

@@ -11,6 +11,8 @@ use crate::cuts::keyed_line;
 use crate::cuts::letter_field;
 use crate::cuts::number;
 use crate::cuts::number_field;
+use crate::forms::Form;
+use crate::forms::Malformed;
 use crate::kinds::Written;
 use carriage::Frame;
 use carriage::Triple;
@@ -152,6 +154,21 @@ pub fn act_line<K: Written>(act: &Act<K>, heap: Global) -> Result<String, AllocE
         Act::Close(shot) => {
             let shot = *shot;
             format!(heap, "close={shot}")
+        }
+    }
+}
+
+// A line that is an act.
+#[derive(Clone, Copy)]
+pub struct ActLine;
+
+pub impl<K: Written> Form<Act<K>> for ActLine as ActLineForm {
+    ghost meant = { λ _. actReads (K·Written .reads) };
+
+    fn read(&self, line: &[u8]) -> Result<Result<Act<K>, ValueFault>, Malformed> {
+        match act(line) {
+            Some(read) => Ok(read),
+            None => Err(Malformed),
         }
     }
 }

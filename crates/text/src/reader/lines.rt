@@ -11,7 +11,7 @@ use crate::forms::Form;
 use values::ValueFault;
 
 // A fault with the line that it came up at.
-fn at_line<T, F>(r: Result<T, F>, line: usize) -> Result<T, At<F>>
+pub fn at_line<T, F>(r: Result<T, F>, line: usize) -> Result<T, At<F>>
     ensures { λ a. ⌜ a ≡ atLine line r ⌝ }
 {
     match r {
