@@ -7,3 +7,4 @@ pub mod Standing
 pub mod Commas
 pub mod Chains
 pub mod Whole
+pub mod Taking

@@ -5,3 +5,4 @@ pub mod Faults
 pub mod Lines
 pub mod Reading
 pub mod Headers
+pub mod Campaigns

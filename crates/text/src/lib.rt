@@ -1,6 +1,7 @@
 // Campaign texts: the reader and the writer of the format, line by line.
 mod acts;
 mod cuts;
+mod errors;
 mod faults;
 mod forms;
 mod headers;
@@ -20,6 +21,12 @@ pub use acts::LetterDebug;
 pub use acts::LetterPartialEq;
 pub use acts::act_line;
 pub use acts::frame;
+pub use errors::ReadError;
+pub use errors::ReadErrorDebug;
+pub use errors::ReadErrorFromAlloc;
+pub use errors::ReadErrorFromFault;
+pub use errors::ReadErrorFromRefused;
+pub use errors::ReadErrorPartialEq;
 pub use faults::At;
 pub use faults::AtDebug;
 pub use faults::AtPartialEq;

@@ -3,6 +3,7 @@ mod acts;
 mod guard;
 mod header;
 mod lines;
+mod values;
 
 #[derive(Clone, Copy)]
 pub struct Reader<'a> {
