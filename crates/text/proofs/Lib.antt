@@ -8,3 +8,5 @@ pub mod Commas
 pub mod Chains
 pub mod Whole
 pub mod Taking
+pub mod MarkLists
+pub mod Texts

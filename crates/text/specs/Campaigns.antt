@@ -1,6 +1,6 @@
 -- The v lines of a text, and all its acts. Assumes nothing.
 use Prim.Native.Nat.{ℕ, zero, suc}
-use mathlib.Core.Bool.{Bool, cond}
+use mathlib.Core.Bool.{Bool, true, false, cond}
 use mathlib.Core.List.{List, [], _∷_, _++_}
 use lib.Chars.{codes}
 use lib.Dec.{eqb}
@@ -13,11 +13,14 @@ use Rattle.values.specs.Lists.{listFault}
 use Rattle.values.specs.declared.faults.ValueFault.{ValueFault}
 use Rattle.text.specs.Acts.{actReads}
 use Rattle.text.specs.Cuts.{bind, keyed, there}
-use Rattle.text.specs.Headers.{then}
+use Rattle.text.specs.Headers.{then, Head, headTaken}
+use Rattle.text.specs.Render.{Told}
+use Rattle.text.specs.declared.headers.ValueKind.{ValueKind}
+use Rattle.text.specs.declared.headers.ValueKind.the-variants.{Notices, Pulses}
 use Rattle.text.specs.Reading.{left, taken}
 use Rattle.text.specs.declared.acts.Act.{Act}
 use Rattle.text.specs.declared.faults.TextFault.{TextFault}
-use Rattle.text.specs.declared.faults.TextFault.the-variants.{List as ListAt}
+use Rattle.text.specs.declared.faults.TextFault.the-variants.{List as ListAt, Form}
 use Rattle.text.specs.declared.errors.ReadError.{ReadError}
 use Rattle.text.specs.declared.errors.ReadError.the-variants.{Fault, Memory}
 use Rattle.text.specs.declared.reader.Reader.{Reader}
@@ -26,6 +29,12 @@ use Rattle.text.specs.declared.reader.Reader.{Reader}
 abbrev pub Faulted : ReadError → (TextFault → Type 0) → Type 0
 Faulted (Fault e) P = P e
 Faulted Memory P = Unit {0}
+
+abbrev pub sameKind : ValueKind → ValueKind → Bool
+sameKind Notices Notices = true
+sameKind Notices Pulses = false
+sameKind Pulses Notices = false
+sameKind Pulses Pulses = true
 
 module _ {K : Type 0} (reads : List ℕ → Option (Result K ValueFault)) where
   abbrev pub valueReads : List ℕ → Option (Result K ValueFault)
@@ -49,3 +58,14 @@ module _ {K : Type 0} (reads : List ℕ → Option (Result K ValueFault)) where
   abbrev pub actsTaken : ℕ → List (Act K) → Reader → Result (List (Act K)) TextFault × Reader
   actsTaken zero acts r = (Ok acts, r)
   actsTaken (suc n) acts r = cond (eqb (length (left r)) 0) (Ok acts, r) (then (taken (actReads reads) r) (λ a after. actsTaken n (acts ++ a ∷ []) after))
+
+  module _ (same : K → K → Bool) (kind : ValueKind) where
+    abbrev pub withActs : Head → List K → Reader → Result (Told K) TextFault × Reader
+    withActs h vs r = then (actsTaken (length (left r)) [] r) (λ xs after. (Ok (record { n = h .n; t = h .t; marks = h .marks; carriage = h .carriage; values = vs; acts = xs }), after))
+
+    -- the kind line, the sixth, has another form in a campaign of this kind
+    abbrev pub withValues : Head → Reader → Result (Told K) TextFault × Reader
+    withValues h r = cond (sameKind (h .kind) kind) (then (valuesTaken same (h .count) [] r) (withActs h)) (Err (Form 6), r)
+
+    abbrev pub campaignTaken : Reader → Result (Told K) TextFault × Reader
+    campaignTaken r = then (headTaken r) withValues

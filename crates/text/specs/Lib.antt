@@ -6,3 +6,4 @@ pub mod Lines
 pub mod Reading
 pub mod Headers
 pub mod Campaigns
+pub mod Render

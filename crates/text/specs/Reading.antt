@@ -2,6 +2,7 @@
 -- there; lines count from 1, refused ones too. A refused line leaves the reader before it. Assumes nothing.
 use Prim.Native.Nat.{ℕ, _+_, _-_, _^_, min}
 use mathlib.Core.List.{List}
+use denote.Ref.{RefT}
 use lib.ListN.{length, drop}
 use Rattle.std.specs.declared.option.Option.{Option}
 use Rattle.std.specs.declared.option.Option.the-variants.{None, Some}
@@ -39,3 +40,7 @@ taken f r = there (lineIn (left r)) (λ p. there (f (p .0)) (ranged r (passed r 
 -- the reader behind a line of whatever form, or at the end of the text
 abbrev pub skipped : Reader → Reader
 skipped r = there (cutAt 10 (left r)) (λ p. passed r (p .0)) (record { text = r .text; place = length (r .text .now); line = cond (eqb (length (left r)) 0) (r .line) (next (r .line)) })
+
+-- a reader before the first line of a text
+abbrev pub start : RefT (List ℕ) → Reader
+start t = record { text = t; place = 0; line = 1 }

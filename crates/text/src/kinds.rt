@@ -7,16 +7,21 @@ ghost use Rattle.std.specs.declared.option.Option.the-variants.{None, Some};
 ghost use Rattle.std.specs.declared.result.Result.{Result};
 ghost use Rattle.std.specs.declared.result.Result.the-variants.{Ok};
 ghost use Rattle.text.specs.Cuts.{Lacks};
+ghost use Rattle.text.specs.declared.headers.ValueKind.{ValueKind as Kinds};
 ghost use Rattle.values.specs.declared.faults.ValueFault.{ValueFault as RangeFault};
 ghost use lib.ListN.{length};
 ghost use mathlib.Core.List.{List, [], _∷_};
 ghost use mathlib.Core.Path.{_≡_};
+use crate::headers::ValueKind;
 use std::alloc::AllocError;
 use std::alloc::Global;
 use values::Kind;
 use values::ValueFault;
 
 pub trait Written: Kind {
+    // The word of the kind line.
+    ghost kind: { Kinds };
+
     // The fields of a value as bytes.
     ghost shows: { Self → List ℕ };
 
@@ -37,6 +42,11 @@ pub trait Written: Kind {
     law brief: { (v : Self) → fits v → length (shows v) ≤ 20 };
 
     law undashed: { reads (45 ∷ []) ≡ None };
+
+    fn kind() -> ValueKind
+    where
+        Self: Sized,
+        ensures { λ r. ⌜ r ≡ kind ⌝ };
 
     fn read(s: &[u8]) -> Option<Result<Self, ValueFault>>
     where

@@ -1,5 +1,6 @@
 // Campaign texts: the reader and the writer of the format, line by line.
 mod acts;
+mod campaigns;
 mod cuts;
 mod errors;
 mod faults;
@@ -21,6 +22,8 @@ pub use acts::LetterDebug;
 pub use acts::LetterPartialEq;
 pub use acts::act_line;
 pub use acts::frame;
+pub use campaigns::Campaign;
+pub use campaigns::read;
 pub use errors::ReadError;
 pub use errors::ReadErrorDebug;
 pub use errors::ReadErrorFromAlloc;

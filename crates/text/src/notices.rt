@@ -1,10 +1,12 @@
 // Notices in a text: letter, block and tick.
 ghost use Rattle.std.specs.declared.option.Option.the-variants.{None, Some};
 ghost use Rattle.text.specs.Values.{noticeShows, noticeReads, noticeFits, noticeOf, outcomeBy};
+ghost use Rattle.text.specs.declared.headers.ValueKind.the-variants.{Notices};
 ghost use mathlib.Core.Path.{_≡_};
 use crate::cuts::letter_field;
 use crate::cuts::number;
 use crate::cuts::number_field;
+use crate::headers::ValueKind;
 use crate::kinds::Written;
 use std::alloc::AllocError;
 use std::alloc::Global;
@@ -32,11 +34,17 @@ fn notice(how: Outcome, block: u16, tick: u16) -> Result<Notice, ValueFault>
 }
 
 pub impl Written for Notice as NoticeWritten {
+    ghost kind = { Notices };
+
     ghost shows = { noticeShows };
 
     ghost reads = { noticeReads };
 
     ghost fits = { noticeFits };
+
+    fn kind() -> ValueKind {
+        ValueKind::Notices
+    }
 
     fn read(s: &[u8]) -> Option<Result<Notice, ValueFault>> {
         let (letter, rest) = letter_field(s)?;

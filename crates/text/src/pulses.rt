@@ -1,8 +1,10 @@
 // Pulse reports in a text: block and pulses.
 ghost use Rattle.text.specs.Values.{pulseShows, pulseReads, pulseFits, pulseOf};
+ghost use Rattle.text.specs.declared.headers.ValueKind.the-variants.{Pulses};
 ghost use mathlib.Core.Path.{_≡_};
 use crate::cuts::number;
 use crate::cuts::number_field;
+use crate::headers::ValueKind;
 use crate::kinds::Written;
 use std::alloc::AllocError;
 use std::alloc::Global;
@@ -18,11 +20,17 @@ fn report(block: u16, pulses: u16) -> Result<PulseReport, ValueFault>
 }
 
 pub impl Written for PulseReport as PulseReportWritten {
+    ghost kind = { Pulses };
+
     ghost shows = { pulseShows };
 
     ghost reads = { pulseReads };
 
     ghost fits = { pulseFits };
+
+    fn kind() -> ValueKind {
+        ValueKind::Pulses
+    }
 
     fn read(s: &[u8]) -> Option<Result<PulseReport, ValueFault>> {
         let (block, rest) = number_field(s)?;

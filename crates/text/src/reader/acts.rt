@@ -1,7 +1,7 @@
 // Reading acts, and passing over lines.
 ghost use Rattle.std.specs.Vec.{made};
 ghost use Rattle.text.specs.Acts.{actReads, actLine};
-ghost use Rattle.text.specs.Reading.{left, taken, skipped};
+ghost use Rattle.text.specs.Reading.{left, taken, skipped, start};
 ghost use lib.Dec.{eqb};
 ghost use lib.ListN.{length};
 ghost use mathlib.Core.List.{_∷_, _++_};
@@ -18,7 +18,7 @@ use crate::kinds::Written;
 impl<'a> Reader<'a> {
     // A reader before the first line.
     pub fn new(text: &'a [u8]) -> Reader<'a>
-        ensures { λ r. ⌜ (now (r .text) ≡ now (text .entry)) × (r .place ≡ 0) × (r .line ≡ 1) ⌝ }
+        ensures { λ r. ⌜ r ≡ start (text .entry) ⌝ }
     {
         Reader {
             text,

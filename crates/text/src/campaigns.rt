@@ -1,0 +1,17 @@
+// A whole campaign.
+use crate::acts::Act;
+use crate::headers::CarriageKind;
+use carriage::Group;
+
+mod whole;
+
+pub use whole::read;
+
+// A group, the carriage that it runs over, the value list and the acts.
+#[derive(Drop)]
+pub struct Campaign<K> {
+    pub group: Group,
+    pub carriage: CarriageKind,
+    pub values: Vec<K>,
+    pub acts: Vec<Act<K>>,
+}
