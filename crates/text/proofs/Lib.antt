@@ -10,3 +10,4 @@ pub mod Whole
 pub mod Taking
 pub mod MarkLists
 pub mod Texts
+pub mod Shown

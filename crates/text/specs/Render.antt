@@ -37,6 +37,11 @@ abbrev pub joinOn : List ℕ → List (List ℕ) → List ℕ
 joinOn f [] = f
 joinOn f (g ∷ gs) = f ++ 44 ∷ joinOn g gs
 
+-- the same, a comma before each piece
+abbrev pub commaed : List (List ℕ) → List ℕ
+commaed [] = []
+commaed (g ∷ gs) = 44 ∷ (g ++ commaed gs)
+
 abbrev pub marksShown : List ℕ → List ℕ
 marksShown [] = 45 ∷ []
 marksShown (m ∷ ms) = joinOn (decimal m) (map decimal ms)

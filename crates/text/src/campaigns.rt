@@ -3,6 +3,7 @@ use crate::acts::Act;
 use crate::headers::CarriageKind;
 use carriage::Group;
 
+mod parts;
 mod whole;
 
 pub use whole::read;
