@@ -6,6 +6,8 @@ use Rattle.values.specs.declared.faults.Layer.the-variants.{Text}
 use Rattle.carriage.specs.Faults.{groupNumber, groupLayer}
 use Rattle.std.specs.declared.result.Result.{Result}
 use Rattle.std.specs.declared.result.Result.the-variants.{Ok, Err}
+use Rattle.text.specs.declared.errors.WriteFault.{WriteFault}
+use Rattle.text.specs.declared.errors.WriteFault.the-variants.{List as OfList, Short}
 use Rattle.text.specs.declared.faults.At.{At}
 use Rattle.text.specs.declared.faults.TextFault.{TextFault}
 use Rattle.text.specs.declared.faults.TextFault.the-variants.{Missing, Form, Value, Group, List}
@@ -35,3 +37,12 @@ lineOf (List e) = e .line
 abbrev pub atLine : {X F : Type 0} → ℕ → Result X F → Result X (At F)
 atLine n (Ok x) = Ok x
 atLine n (Err e) = Err (record { line = n; fault = e })
+
+-- a buffer that is too short is fault 21 of the text
+abbrev pub writeNumber : WriteFault → ℕ
+writeNumber (OfList e) = listNumber e
+writeNumber Short = 21
+
+abbrev pub writeLayer : WriteFault → Layer
+writeLayer (OfList e) = listLayer e
+writeLayer Short = Text

@@ -7,3 +7,4 @@ pub mod Reading
 pub mod Headers
 pub mod Campaigns
 pub mod Render
+pub mod Writing

@@ -5,8 +5,11 @@ use carriage::Group;
 
 mod parts;
 mod whole;
+mod writes;
 
 pub use whole::read;
+pub use writes::rendered;
+pub use writes::write;
 
 // A group, the carriage that it runs over, the value list and the acts.
 #[derive(Drop)]

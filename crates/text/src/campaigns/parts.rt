@@ -43,7 +43,11 @@ pub fn marks_text(group: &Group, k: u16, heap: Global) -> Result<String, AllocEr
 }
 
 // The v lines, behind what the text has already.
-pub fn push_values<K: Written>(text: &mut String, values: &[K], heap: Global) -> Result<(), AllocError>
+pub fn push_values<K: Written>(
+    text: &mut String,
+    values: &[K],
+    heap: Global,
+) -> Result<(), AllocError>
     ensures { λ r. ⌜ made r (λ _. (rest : List ℕ) → string-bytes (now (text .exit)) ++ rest ≡ string-bytes (now (text .entry)) ++ valueLines (K·Written .shows) (now (values .entry)) rest) ⌝ }
 {
     for v in values {
@@ -55,7 +59,11 @@ pub fn push_values<K: Written>(text: &mut String, values: &[K], heap: Global) ->
 }
 
 // The lines of the acts, behind what the text has already.
-pub fn push_acts<K: Written>(text: &mut String, acts: &[Act<K>], heap: Global) -> Result<(), AllocError>
+pub fn push_acts<K: Written>(
+    text: &mut String,
+    acts: &[Act<K>],
+    heap: Global,
+) -> Result<(), AllocError>
     ensures { λ r. ⌜ made r (λ _. string-bytes (now (text .exit)) ≡ string-bytes (now (text .entry)) ++ actLines (K·Written .shows) (now (acts .entry))) ⌝ }
 {
     for a in acts {

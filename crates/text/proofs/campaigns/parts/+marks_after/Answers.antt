@@ -20,5 +20,5 @@ pub returns : need.returns
 returns t c =
     made-weaker (c .format .result) _ _
     (λ s e. e ∙ ap (λ y. 44 ∷ (decimal (c .args .k) ++ y)) (c .in-Continue-tail .ensures tt)
-      ∙ sym (ap (λ l. commaed (map decimal l)) (list-marked (c .args .k) (marked (c .args .group .now)) (omega arith) (sym (c .if-not-is-marked .ensures tt)))))
+    ∙ sym (ap (λ l. commaed (map decimal l)) (list-marked (c .args .k) (marked (c .args .group .now)) (omega arith) (sym (c .if-not-is-marked .ensures tt)))))
     (c .format .ensures .made)

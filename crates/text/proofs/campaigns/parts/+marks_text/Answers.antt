@@ -21,5 +21,5 @@ pub returns : need.returns
 returns t c =
     made-weaker (c .format .result) _ _
     (λ s e. e ∙ ap (λ y. decimal (c .args .k) ++ y) (c .in-Continue-tail .ensures tt) ∙ sym (join-commaed (decimal (c .args .k)) _)
-      ∙ sym (ap marksShown (list-marked (c .args .k) (marked (c .args .group .now)) (omega arith) (sym (c .if-not-is-marked .ensures tt)))))
+    ∙ sym (ap marksShown (list-marked (c .args .k) (marked (c .args .group .now)) (omega arith) (sym (c .if-not-is-marked .ensures tt)))))
     (c .format .ensures .made)
