@@ -21,7 +21,7 @@ use Rattle.sets.specs.Sets.{has}
 use Rattle.carriage.specs.Groups.{groupFault}
 use Rattle.carriage.specs.declared.members.Marks.{Marks}
 use Rattle.carriage.specs.declared.faults.GroupFault.{GroupFault}
-use Rattle.text.specs.Cuts.{there}
+use Rattle.fields.specs.Cuts.{there}
 use Rattle.text.specs.Headers.{then, inTable, groupFaultBy, grouped}
 use Rattle.text.specs.Faults.{atLine}
 use Rattle.text.specs.declared.faults.At.{At}

@@ -10,9 +10,9 @@ use Rattle.std.specs.Options.{mapped}
 use Rattle.std.specs.declared.option.Option.{Option}
 use Rattle.std.specs.declared.option.Option.the-variants.{None, Some}
 use Rattle.std.proofs.shelf.Tests.{cond-true, cond-false}
-use Rattle.text.specs.Cuts.{cutAt}
+use Rattle.fields.specs.Cuts.{cutAt}
 use Rattle.text.specs.Headers.{pieces, onHead}
-use Rattle.text.proofs.Fields.{cut-back}
+use Rattle.fields.proofs.Fields.{cut-back}
 
 -- the first comma ends the first piece
 pub pieces-cut : (s : List ℕ) (p : List ℕ × List ℕ) → cutAt 44 s ≡ Some p → pieces s ≡ p .0 ∷ pieces (p .1)

@@ -1,8 +1,3 @@
-pub mod Pieces
-pub mod Decimal
-pub mod Fields
-pub mod Back
-pub mod ActLines
 pub mod Standing
 pub mod Commas
 pub mod Chains

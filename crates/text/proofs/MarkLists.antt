@@ -18,11 +18,11 @@ use Rattle.std.proofs.shelf.Lists.{getD-set-same, getD-set-other, getD-replicat
 use Rattle.std.proofs.shelf.Tests.{cond-true, cond-false, cases-lt, leb-true, eqb-true}
 use Rattle.values.specs.declared.faults.ValueFault.{ValueFault}
 use Rattle.values.specs.declared.faults.ValueFault.the-variants.{Mark}
-use Rattle.text.specs.Cuts.{bind, decode}
-use Rattle.text.specs.Headers.{pieces, onHead, onResult, markIn, marksOver, marksField, noMarks, inTable}
+use Rattle.fields.specs.Cuts.{bind, decode, onResult}
+use Rattle.text.specs.Headers.{pieces, onHead, markIn, marksOver, marksField, noMarks, inTable}
 use Rattle.text.specs.Render.{listFrom, joinOn, marksShown}
-use Rattle.text.proofs.Decimal.{decode-back}
-use Rattle.text.proofs.Fields.{bind-back}
+use Rattle.fields.proofs.Decimal.{decode-back}
+use Rattle.fields.proofs.Fields.{bind-back}
 
 list-none : (n l : ℕ) (p : ℕ → Bool) → ((k : ℕ) → l ≤ k → p k ≡ false) → listFrom n l p ≡ []
 unfolding listFrom

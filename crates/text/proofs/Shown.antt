@@ -8,9 +8,9 @@ use lib.Chars.{codes}
 use lib.ListN.{length, getD, drop}
 use Rattle.std.proofs.shelf.Lists.{drop-more, append-nil}
 use Rattle.std.proofs.shelf.Tests.{cond-true, cond-false}
-use Rattle.text.specs.Acts.{actLine}
+use Rattle.fields.specs.Acts.{actLine}
 use Rattle.text.specs.Render.{listFrom, joinOn, commaed, valueLines, actLines}
-use Rattle.text.specs.declared.acts.Act.{Act}
+use Rattle.fields.specs.declared.acts.Act.{Act}
 
 pub list-past : (k : ℕ) (p : ℕ → Bool) → 16 ≤ k → listFrom (16 - k) k p ≡ []
 unfolding listFrom

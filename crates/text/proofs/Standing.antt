@@ -11,8 +11,8 @@ use Rattle.std.specs.declared.option.Option.the-variants.{None, Some}
 use Rattle.std.proofs.shelf.Lists.{drop-at, drop-drop}
 use Rattle.std.proofs.shelf.Tests.{cond-true, le-leb}
 use native.Mathlib.Numerals.{add-one}
-use Rattle.text.specs.Cuts.{cutAt}
-use Rattle.text.specs.Cuts.{there}
+use Rattle.fields.specs.Cuts.{cutAt}
+use Rattle.fields.specs.Cuts.{there}
 use Rattle.text.specs.Lines.{lineIn}
 use Rattle.text.specs.Reading.{left, passed, ranged, taken, next}
 use Rattle.text.specs.declared.faults.TextFault.{TextFault}
@@ -21,7 +21,7 @@ use Rattle.text.specs.declared.reader.Reader.{Reader}
 use Rattle.values.specs.declared.faults.ValueFault.{ValueFault}
 use Rattle.std.specs.declared.result.Result.{Result}
 use Rattle.std.specs.declared.result.Result.the-variants.{Ok, Err}
-use Rattle.text.proofs.Fields.{bind-back, bind-forth, cut-back}
+use Rattle.fields.proofs.Fields.{bind-back, bind-forth, cut-back}
 
 -- what stands behind the first line and its line feed
 behind : (a b : List ℕ) → drop (suc (length a)) (a ++ 10 ∷ b) ≡ b

@@ -16,10 +16,10 @@ use Rattle.std.specs.declared.result.Result.{Result}
 use Rattle.std.specs.declared.result.Result.the-variants.{Ok, Err}
 use Rattle.std.proofs.shelf.Tests.{cond-true, cond-false}
 use Rattle.values.specs.declared.faults.ValueFault.{ValueFault}
-use Rattle.text.specs.Acts.{actReads}
+use Rattle.fields.specs.Acts.{actReads}
 use Rattle.text.specs.Campaigns.{valueReads, lastTaken, valuesTaken, actsTaken}
 use Rattle.text.specs.Reading.{left, taken}
-use Rattle.text.specs.declared.acts.Act.{Act}
+use Rattle.fields.specs.declared.acts.Act.{Act}
 use Rattle.text.specs.declared.faults.TextFault.{TextFault}
 use Rattle.text.specs.declared.reader.Reader.{Reader}
 use Rattle.text.proofs.Chains.{then-ok, then-err}

@@ -29,23 +29,23 @@ use Rattle.values.specs.declared.faults.ListFault.{ListFault}
 use Rattle.values.specs.declared.faults.ValueFault.{ValueFault}
 use Rattle.values.specs.declared.faults.ValueFault.the-variants.{Count}
 use Rattle.carriage.specs.declared.faults.GroupFault.{GroupFault}
-use Rattle.text.specs.Acts.{actLine, actReads}
+use Rattle.fields.specs.Acts.{actLine, actReads}
 use Rattle.text.specs.Campaigns.{valueReads, listed, lastTaken, valuesTaken, actsTaken, sameKind, withActs, withValues, campaignTaken}
-use Rattle.text.specs.Cuts.{bind, decode, keyed, there}
-use Rattle.text.specs.Headers.{benchReads, numbered, numberReads, countReads, carriageReads, kindReads, marksField, marksReads, inTable, groupFaultBy, grouped, groupTaken, onResult, then, Head, fromCount, fromKind, fromCarriage, fromMarks, fromT, fromN, headTaken}
+use Rattle.fields.specs.Cuts.{bind, decode, keyed, there, onResult}
+use Rattle.text.specs.Headers.{benchReads, numbered, numberReads, countReads, carriageReads, kindReads, marksField, marksReads, inTable, groupFaultBy, grouped, groupTaken, then, Head, fromCount, fromKind, fromCarriage, fromMarks, fromT, fromN, headTaken}
 use Rattle.text.specs.Reading.{left, taken}
 use Rattle.text.specs.Render.{Told, listFrom, marksShown, marksLine, carriageLine, kindLine, valueLines, actLines, render}
-use Rattle.text.specs.declared.acts.Act.{Act}
+use Rattle.fields.specs.declared.acts.Act.{Act}
 use Rattle.text.specs.declared.faults.TextFault.{TextFault}
 use Rattle.text.specs.declared.faults.TextFault.the-variants.{Form, Group, List as ListAt}
 use Rattle.text.specs.declared.headers.CarriageKind.{CarriageKind}
 use Rattle.text.specs.declared.headers.CarriageKind.the-variants.{Echo, Seal}
-use Rattle.text.specs.declared.headers.ValueKind.{ValueKind}
-use Rattle.text.specs.declared.headers.ValueKind.the-variants.{Notices, Pulses}
+use Rattle.fields.specs.declared.kinds.ValueKind.{ValueKind}
+use Rattle.fields.specs.declared.kinds.ValueKind.the-variants.{Notices, Pulses}
 use Rattle.text.specs.declared.reader.Reader.{Reader}
-use Rattle.text.proofs.ActLines.{act-back}
-use Rattle.text.proofs.Decimal.{decode-back}
-use Rattle.text.proofs.Fields.{bind-back, keyed-back}
+use Rattle.fields.proofs.ActLines.{act-back}
+use Rattle.fields.proofs.Decimal.{decode-back}
+use Rattle.fields.proofs.Fields.{bind-back, keyed-back}
 use Rattle.text.proofs.MarkLists.{marks-back}
 use Rattle.text.proofs.Standing.{taken-back}
 

@@ -8,13 +8,13 @@ use Rattle.std.specs.declared.option.Option.the-variants.{None, Some}
 use Rattle.std.specs.declared.result.Result.{Result}
 use Rattle.std.specs.declared.result.Result.the-variants.{Ok, Err}
 use Rattle.values.specs.declared.faults.ValueFault.{ValueFault}
-use Rattle.text.specs.Acts.{actLine, actReads, actFits}
+use Rattle.fields.specs.Acts.{actLine, actReads, actFits}
 use Rattle.text.specs.Reading.{left, taken}
-use Rattle.text.specs.declared.acts.Act.{Act}
+use Rattle.fields.specs.declared.acts.Act.{Act}
 use Rattle.text.specs.declared.faults.TextFault.{TextFault}
 use Rattle.text.specs.declared.reader.Reader.{Reader}
 use Rattle.text.proofs.Standing.{taken-back}
-use Rattle.text.proofs.ActLines.{act-back}
+use Rattle.fields.proofs.ActLines.{act-back}
 
 module _ {K : Type 0} (shows : K → List ℕ) (reads : List ℕ → Option (Result K ValueFault)) (fits : K → Type 0)
     (back : (s : List ℕ) (v : K) → reads s ≡ Some (Ok v) → (s ≡ shows v) × fits v) where

@@ -11,14 +11,14 @@ use Rattle.std.specs.declared.result.Result.{Result}
 use Rattle.std.specs.declared.result.Result.the-variants.{Ok, Err}
 use Rattle.values.specs.Lists.{listFault}
 use Rattle.values.specs.declared.faults.ValueFault.{ValueFault}
-use Rattle.text.specs.Acts.{actReads}
-use Rattle.text.specs.Cuts.{bind, keyed, there}
+use Rattle.fields.specs.Acts.{actReads}
+use Rattle.fields.specs.Cuts.{bind, keyed, there}
 use Rattle.text.specs.Headers.{then, Head, headTaken}
 use Rattle.text.specs.Render.{Told}
-use Rattle.text.specs.declared.headers.ValueKind.{ValueKind}
-use Rattle.text.specs.declared.headers.ValueKind.the-variants.{Notices, Pulses}
+use Rattle.fields.specs.declared.kinds.ValueKind.{ValueKind}
+use Rattle.fields.specs.declared.kinds.ValueKind.the-variants.{Notices, Pulses}
 use Rattle.text.specs.Reading.{left, taken}
-use Rattle.text.specs.declared.acts.Act.{Act}
+use Rattle.fields.specs.declared.acts.Act.{Act}
 use Rattle.text.specs.declared.faults.TextFault.{TextFault}
 use Rattle.text.specs.declared.faults.TextFault.the-variants.{List as ListAt, Form}
 use Rattle.text.specs.declared.errors.ReadError.{ReadError}

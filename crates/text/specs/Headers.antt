@@ -19,14 +19,14 @@ use Rattle.values.specs.declared.faults.ValueFault.the-variants.{Mark, Count}
 use Rattle.carriage.specs.declared.faults.GroupFault.{GroupFault}
 use Rattle.carriage.specs.declared.faults.GroupFault.the-variants.{Size, Tolerance, Marks}
 use Rattle.carriage.specs.Groups.{marked}
-use Rattle.text.specs.Cuts.{bind, decode, keyed, there}
+use Rattle.fields.specs.Cuts.{bind, decode, keyed, there, onResult}
 use Rattle.text.specs.Reading.{taken}
 use Rattle.text.specs.declared.faults.TextFault.{TextFault}
 use Rattle.text.specs.declared.faults.TextFault.the-variants.{Group}
 use Rattle.text.specs.declared.headers.CarriageKind.{CarriageKind}
 use Rattle.text.specs.declared.headers.CarriageKind.the-variants.{Echo, Seal}
-use Rattle.text.specs.declared.headers.ValueKind.{ValueKind}
-use Rattle.text.specs.declared.headers.ValueKind.the-variants.{Notices, Pulses}
+use Rattle.fields.specs.declared.kinds.ValueKind.{ValueKind}
+use Rattle.fields.specs.declared.kinds.ValueKind.the-variants.{Notices, Pulses}
 use Rattle.text.specs.declared.headers.Header.{Header}
 use Rattle.text.specs.declared.reader.Reader.{Reader}
 
@@ -65,10 +65,6 @@ noMarks = replicate 16 false
 -- one mark more in the table: marks rise, and a number above 15 is out of range
 abbrev pub markIn : ℕ → List Bool → ℕ → Option (Result (List Bool) ValueFault)
 markIn least t m = cond (leb least m) (Some (cond (leb m 15) (Ok (set t m true)) (Err Mark))) None
-
-abbrev pub onResult : {X E Y : Type 0} → Result X E → (X → Y) → (E → Y) → Y
-onResult (Ok x) f g = f x
-onResult (Err e) f g = g e
 
 -- marks from `least` on are put into the table; one out of range is told only where all of the line has its form
 abbrev pub marksOver : ℕ → List Bool → List (List ℕ) → Option (Result (List Bool) ValueFault)

@@ -1,6 +1,3 @@
-pub mod Cuts
-pub mod Values
-pub mod Acts
 pub mod Faults
 pub mod Lines
 pub mod Reading

@@ -6,7 +6,7 @@ use lib.Dec.{leb}
 use lib.ListN.{length}
 use Rattle.std.specs.declared.option.Option.{Option}
 use Rattle.std.specs.declared.option.Option.the-variants.{None, Some}
-use Rattle.text.specs.Cuts.{bind, cutAt}
+use Rattle.fields.specs.Cuts.{bind, cutAt}
 
 -- the first line, and the text after it
 abbrev pub lineIn : List ℕ → Option (List ℕ × List ℕ)

@@ -11,7 +11,7 @@ use Rattle.std.specs.declared.result.Result.the-variants.{Ok, Err}
 use Rattle.values.specs.declared.faults.ValueFault.{ValueFault}
 use mathlib.Core.Bool.{cond}
 use lib.Dec.{eqb}
-use Rattle.text.specs.Cuts.{there, cutAt}
+use Rattle.fields.specs.Cuts.{there, cutAt}
 use Rattle.text.specs.Lines.{lineIn}
 use Rattle.text.specs.declared.faults.TextFault.{TextFault}
 use Rattle.text.specs.declared.faults.TextFault.the-variants.{Missing, Form, Value}

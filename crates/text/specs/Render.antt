@@ -7,12 +7,12 @@ use lib.ListN.{length}
 use Rattle.std.specs.Of.Vec.{vec-items}
 use Rattle.std.specs.Written.{decimal}
 use Rattle.carriage.specs.Groups.{marked}
-use Rattle.text.specs.Acts.{actLine}
-use Rattle.text.specs.declared.acts.Act.{Act}
+use Rattle.fields.specs.Acts.{actLine}
+use Rattle.fields.specs.declared.acts.Act.{Act}
 use Rattle.text.specs.declared.headers.CarriageKind.{CarriageKind}
 use Rattle.text.specs.declared.headers.CarriageKind.the-variants.{Echo, Seal}
-use Rattle.text.specs.declared.headers.ValueKind.{ValueKind}
-use Rattle.text.specs.declared.headers.ValueKind.the-variants.{Notices, Pulses}
+use Rattle.fields.specs.declared.kinds.ValueKind.{ValueKind}
+use Rattle.fields.specs.declared.kinds.ValueKind.the-variants.{Notices, Pulses}
 use Rattle.text.specs.declared.campaigns.Campaign.{Campaign}
 
 -- what a campaign says: a group by its numbers and who is marked, the carriage, the values and the acts

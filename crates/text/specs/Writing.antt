@@ -13,7 +13,7 @@ use Rattle.text.specs.declared.errors.WriteError.{WriteError}
 use Rattle.text.specs.declared.errors.WriteError.the-variants.{Fault, Memory}
 use Rattle.text.specs.declared.errors.WriteFault.{WriteFault}
 use Rattle.text.specs.declared.errors.WriteFault.the-variants.{List as OfList, Short}
-use Rattle.text.specs.declared.headers.ValueKind.{ValueKind}
+use Rattle.fields.specs.declared.kinds.ValueKind.{ValueKind}
 
 -- what is said of a fault; of want of memory nothing is
 abbrev pub FaultedBy : WriteError → (WriteFault → Type 0) → Type 0

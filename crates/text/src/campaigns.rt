@@ -1,7 +1,7 @@
 // A whole campaign.
-use crate::acts::Act;
 use crate::headers::CarriageKind;
 use carriage::Group;
+use fields::Act;
 
 mod parts;
 mod whole;

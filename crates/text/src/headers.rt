@@ -1,5 +1,6 @@
 // The header of a campaign text.
 use carriage::Group;
+use fields::ValueKind;
 
 mod forms;
 
@@ -21,13 +22,6 @@ pub use forms::NumberLineForm;
 pub enum CarriageKind {
     Echo,
     Seal,
-}
-
-// The kind of a campaign's values.
-#[derive(Clone, Copy, Debug, PartialEq, Eq)]
-pub enum ValueKind {
-    Notices,
-    Pulses,
 }
 
 // What the seven header lines say; `count` values follow.

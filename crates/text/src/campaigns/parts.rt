@@ -7,10 +7,10 @@ ghost use Rattle.std.specs.Written.{decimal};
 ghost use Rattle.text.specs.Render.{listFrom, commaed, marksShown, valueLines, actLines};
 ghost use mathlib.Core.List.{List, _++_, map};
 ghost use mathlib.Core.Path.{_≡_};
-use crate::acts::Act;
-use crate::acts::act_line;
-use crate::kinds::Written;
 use carriage::Group;
+use fields::Act;
+use fields::Written;
+use fields::act_line;
 use std::alloc::AllocError;
 use std::alloc::Global;
 

@@ -10,9 +10,9 @@ use super::Campaign;
 use crate::errors::ReadError;
 use crate::errors::ReadErrorFromFault;
 use crate::faults::TextFault;
-use crate::headers::ValueKindPartialEq;
-use crate::kinds::Written;
 use crate::reader::Reader;
+use fields::ValueKindPartialEq;
+use fields::Written;
 use std::alloc::Global;
 
 // Reads a campaign whose values are of the kind `K`. The kind line of a campaign of the other kind, its sixth line, is

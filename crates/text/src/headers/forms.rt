@@ -1,20 +1,20 @@
 // The forms of the header lines.
 ghost use Prim.Native.Nat.{ℕ};
 ghost use Rattle.std.specs.declared.option.Option.the-variants.{None, Some};
-ghost use Rattle.text.specs.Cuts.{there};
+ghost use Rattle.fields.specs.Cuts.{there};
 ghost use Rattle.text.specs.Headers.{benchReads, numbered, numberReads, countReads, carriageReads, kindReads, markIn, noMarks, marksOver, marksReads, pieces};
 ghost use lib.Chars.{codes};
 ghost use lib.ListN.{length};
 ghost use mathlib.Core.Path.{_≡_};
 use super::CarriageKind;
-use super::ValueKind;
-use crate::cuts::cut;
-use crate::cuts::is_dash;
-use crate::cuts::keyed_line;
-use crate::cuts::number;
-use crate::cuts::same;
-use crate::forms::Form;
-use crate::forms::Malformed;
+use fields::Form;
+use fields::Malformed;
+use fields::ValueKind;
+use fields::cut;
+use fields::is_dash;
+use fields::keyed_line;
+use fields::number;
+use fields::same;
 use values::ValueFault;
 
 // The first line, which is always the same.

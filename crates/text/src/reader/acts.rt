@@ -1,6 +1,6 @@
 // Reading acts, and passing over lines.
 ghost use Rattle.std.specs.Vec.{made};
-ghost use Rattle.text.specs.Acts.{actReads, actLine};
+ghost use Rattle.fields.specs.Acts.{actReads, actLine};
 ghost use Rattle.text.specs.Reading.{left, taken, skipped, start};
 ghost use lib.Dec.{eqb};
 ghost use lib.ListN.{length};
@@ -8,12 +8,12 @@ ghost use mathlib.Core.List.{_∷_, _++_};
 ghost use mathlib.Core.Path.{_≡_};
 use super::Reader;
 use super::guard::rest;
-use crate::acts::Act;
-use crate::acts::ActLine;
-use crate::acts::ActLineForm;
-use crate::cuts::cut;
 use crate::faults::TextFault;
-use crate::kinds::Written;
+use fields::Act;
+use fields::ActLine;
+use fields::ActLineForm;
+use fields::Written;
+use fields::cut;
 
 impl<'a> Reader<'a> {
     // A reader before the first line.

@@ -7,7 +7,7 @@ ghost use denote.Ref.{name};
 ghost use lib.ListN.{length, drop};
 ghost use mathlib.Core.Bool.{true, false, cond};
 ghost use mathlib.Core.Path.{_≡_};
-use crate::cuts::cut;
+use fields::cut;
 
 // The line is missing, too long, or has no line feed.
 #[derive(Clone, Copy)]

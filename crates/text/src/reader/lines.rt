@@ -7,7 +7,7 @@ use super::guard::Guard;
 use crate::faults::At;
 use crate::faults::TextFault;
 use crate::faults::TextFaultFromValue;
-use crate::forms::Form;
+use fields::Form;
 use values::ValueFault;
 
 // A fault with the line that it came up at.

@@ -1,7 +1,7 @@
 use borrow.Author.Needs.{needs}
 use mathlib.Core.Path.{sym, _∙_}
 use Rattle.text.specs.Headers.{markIn}
-use Rattle.text.proofs.Fields.{bind-forth, same-again}
+use Rattle.fields.proofs.Fields.{bind-forth, same-again}
 use Rattle.text.proofs.Commas.{pieces-cut, pieces-whole, cut-shorter}
 use Rattle.text.proofs.headers.forms.+marks_over.Needs as need
 

@@ -6,7 +6,7 @@ use lib.ListN.{length}
 use Rattle.std.specs.Of.Vec.{vec-items, vec-len}
 use Rattle.std.proofs.shelf.Parts.{pushed}
 use Rattle.std.proofs.shelf.Tests.{eqb-false}
-use Rattle.text.specs.Acts.{actReads}
+use Rattle.fields.specs.Acts.{actReads}
 use Rattle.text.specs.Campaigns.{actsTaken}
 use Rattle.text.specs.Reading.{left}
 use Rattle.text.proofs.Chains.{exit-by}

@@ -1,7 +1,7 @@
 use mathlib.Core.Path.{_∙_}
 use native.Mathlib.Omega.{arith}
 use Rattle.std.proofs.shelf.Tests.{cond-true, le-leb}
-use Rattle.text.proofs.Fields.{bind-forth}
+use Rattle.fields.proofs.Fields.{bind-forth}
 use Rattle.text.proofs.Standing.{line-cut}
 use Rattle.text.proofs.reader.guard.whole_line.Needs as need
 

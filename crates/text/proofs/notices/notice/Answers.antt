@@ -1,5 +1,0 @@
-use Rattle.text.proofs.Back.{notice-made}
-use Rattle.text.proofs.notices.notice.Needs as need
-
-pub returns : need.returns
-returns c = notice-made (c .args .how) (c .args .block) (c .args .tick) _ (c .new .ensures .refusal) (c .new .ensures .value)

@@ -1,5 +1,0 @@
-use Rattle.text.proofs.Back.{pulse-made}
-use Rattle.text.proofs.pulses.report.Needs as need
-
-pub returns : need.returns
-returns c = pulse-made (c .args .block) (c .args .pulses) _ (c .new .ensures .refusal) (c .new .ensures .value)
