@@ -1,0 +1,5 @@
+pub mod Pieces
+pub mod Decimal
+pub mod Fields
+pub mod Back
+pub mod ActLines
