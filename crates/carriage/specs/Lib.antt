@@ -4,3 +4,4 @@ pub mod Triples
 pub mod Model
 pub mod Runs
 pub mod Moments
+pub mod Checks

@@ -1,4 +1,5 @@
 // Checks that every carriage makes, and one that a laboratory can run on any carriage.
+ghost use Rattle.carriage.specs.Checks.{Went, beforeTurn, relayFault};
 ghost use Rattle.carriage.specs.Model.{frameCause, offerCause, readAnswer};
 ghost use Rattle.std.specs.Results.{errPart};
 ghost use Rattle.std.specs.Vec.{made};
@@ -58,7 +59,9 @@ pub fn check_read(
 
 // Takes a turn, and says whether `r` then holds the triple if `q` held it before: it always does.
 pub fn relay_holds<C: Carriage>(c: &mut C, q: u16, r: u16, x: Triple) -> Result<bool, CarriageFault>
-    ensures { λ a. ⌜ made a (λ holds. holds ≡ true) ⌝ }
+    ensures refusal { λ a. ⌜ errPart a ≡ relayFault (C·Carriage .model (now (c .entry))) q r x ⌝ }
+    ensures does { λ _. ⌜ Went (beforeTurn (C·Carriage .model (now (c .entry))) q x) (C·Carriage .turns (now (c .entry)) (now (c .exit))) (now (c .exit) ≡ now (c .entry)) ⌝ }
+    ensures holds { λ a. ⌜ made a (λ holds. holds ≡ true) ⌝ }
 {
     let before = c.held(q, x)?;
     c.turn()?;
