@@ -1,4 +1,6 @@
 // The acts of a campaign.
+#![tactic(auto)]
+
 use carriage::Triple;
 
 mod lines;

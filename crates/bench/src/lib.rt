@@ -1,5 +1,7 @@
 // The bench: it runs shots over any carriage, which it knows by its contracts alone, and keeps every correct
 // controller's extracted set and register.
+#![tactic(auto)]
+
 mod charging;
 mod moments;
 mod offers;

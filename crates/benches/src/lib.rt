@@ -1,5 +1,7 @@
 // Benches over the two carriages. Besides the law of agreement their contracts say that the carriage goes by its own rules
 // through every run of the bench, and that the same calls always have the same answers.
+#![tactic(auto)]
+
 ghost use Rattle.agreement.specs.Law.{AllAgree, opened};
 ghost use Rattle.agreement.specs.Repeats.{AllRepeat};
 ghost use Rattle.agreement.specs.Views.{rules_of};

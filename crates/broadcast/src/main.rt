@@ -1,6 +1,8 @@
 // Carries two triples through a group of four controllers of which controller 3 is marked: one that controller 0 offers,
 // and one that only controller 3 sends, to some; once by the seal carriage and once by the echo carriage. Prints phase
 // by phase what was sent, what was refused and who accepted.
+#![tactic(auto)]
+
 ghost use Rattle.broadcast.specs.Holders.{HoldersBelow, holds};
 ghost use Rattle.std.specs.Prelude.{◌≡◌};
 

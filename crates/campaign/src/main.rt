@@ -1,4 +1,6 @@
 // Runs the campaign on standard input and prints its report. The text is the first 32,768 bytes of the input.
+#![tactic(auto)]
+
 use lines::printed;
 use report::report;
 use std::io;

@@ -1,4 +1,6 @@
 // What a carriage means: triples, frames, and the trait that every carriage keeps. No carriage is written here.
+#![tactic(auto)]
+
 mod checks;
 mod frames;
 mod meaning;

@@ -1,4 +1,6 @@
 // Worked examples of what the libraries answer, and of every refusal, as tests.
+#![tactic(auto)]
+
 #[cfg(test)]
 mod echoes;
 #[cfg(test)]

@@ -1,4 +1,6 @@
 // The smallest parts of a line: pieces between separators, and decimal numbers.
+#![tactic(auto)]
+
 ghost use Rattle.std.specs.Prelude.{◌≡◌, [], ◌∷◌, Some, None, MatchOption};
 ghost use Rattle.cuts.specs.Cuts.{cut_at, digits_from, decode, single, field_number, field_letter, keyed};
 ghost use Rattle.std.specs.Str.{bytes_eq};

@@ -1,4 +1,6 @@
 // Values of campaign texts: how the fields of each kind are read and written, and what a form of lines is.
+#![tactic(auto)]
+
 mod forms;
 mod kinds;
 mod notices;

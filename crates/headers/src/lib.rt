@@ -1,4 +1,6 @@
 // The header of a campaign text.
+#![tactic(auto)]
+
 use fields::ValueKind;
 use groups::Group;
 

@@ -1,5 +1,7 @@
 // What a laboratory can do with a bench over any carriage and any kind of value. That correct controllers agree here
 // follows from the contracts of the bench's calls alone.
+#![tactic(auto)]
+
 mod passes;
 mod readings;
 

@@ -1,4 +1,6 @@
 // What a report of a campaign says, and the lines that it is printed as.
+#![tactic(auto)]
+
 mod happenings;
 mod printing;
 

@@ -1,4 +1,6 @@
 // Value lists: 1 to 4 values of one kind, no two of them the same. A value's place is its index, from 0.
+#![tactic(auto)]
+
 ghost use Rattle.std.specs.Prelude.{◌≡◌, OnOk};
 ghost use Rattle.std.specs.Result.{result_err};
 ghost use Rattle.lists.specs.Lists.{place_of, FirstPlace, distinct, Apart, length_fault, list_fault};

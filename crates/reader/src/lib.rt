@@ -1,4 +1,6 @@
 // The reader of a campaign text: a lent text, a place in it, and the number of the line that stands there.
+#![tactic(auto)]
+
 mod acts;
 mod guard;
 mod header;

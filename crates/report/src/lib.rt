@@ -1,4 +1,6 @@
 // Runs a campaign text over a bench and reports what came of it.
+#![tactic(auto)]
+
 mod acts;
 mod courses;
 mod pool;

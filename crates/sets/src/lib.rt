@@ -1,5 +1,7 @@
 // Sets of controllers: each controller below 16 is one bit of a `u16`, so that sets are joined and counted
 // by single machine instructions. A number of 16 or more is in no set.
+#![tactic(auto)]
+
 ghost use Rattle.std.specs.Prelude.{◌≡◌, ℕ, false, not, ◌&&◌, ◌||◌, ◌==◌, nat_lt};
 ghost use Rattle.sets.specs.Sets.{has, size};
 

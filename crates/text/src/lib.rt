@@ -1,4 +1,6 @@
 // Campaign texts: the reader and the writer of the format, line by line.
+#![tactic(auto)]
+
 mod campaigns;
 
 pub use acts::{Act, Injection, Letter, act_line, frame};

@@ -1,4 +1,6 @@
 // Campaign texts that are taken and that are refused, each with its line and number, as tests.
+#![tactic(auto)]
+
 #[cfg(test)]
 mod headers;
 #[cfg(test)]

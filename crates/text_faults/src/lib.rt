@@ -1,4 +1,6 @@
 // Faults of campaign texts: each names its line, and keeps the number and layer of what it wraps.
+#![tactic(auto)]
+
 mod errors;
 mod texts;
 mod wraps;

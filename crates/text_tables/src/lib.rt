@@ -1,4 +1,6 @@
 // Campaign texts that are taken and that are refused, each with its line, layer and number, as tests.
+#![tactic(auto)]
+
 #[cfg(test)]
 mod cases;
 #[cfg(test)]

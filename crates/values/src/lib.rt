@@ -1,4 +1,6 @@
 // Kinds of value: which values are the same and which block one charges. Two kinds are here, notices and pulse reports.
+#![tactic(auto)]
+
 mod kinds;
 mod notices;
 mod pulses;

@@ -1,5 +1,7 @@
 // Worked cases: a proved table of what the definitions say of small examples, and a shot of a marked sender that tells
 // two stories, played and proved call by call.
+#![tactic(auto)]
+
 mod groups;
 mod stories;
 
