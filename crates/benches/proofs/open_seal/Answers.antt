@@ -16,7 +16,7 @@ returns g c =
     let made = c.in-Ok.ensures in
     let open-bench = c.in-Ok-open.ensures in
     record {
-      refusal = ap (option_map List) c.in-ok-check-list.ensures.refusal;
+      refusal = ap (option_map List) c.in_ok-check_list.ensures.refusal;
       law = open-bench.law;
       protocol = λ es w run.
           subst₂ (λ k n. Says k n (carried seal_account rules run) w.carriage) (ap (λ s. s.group) made.value) (ap (λ s. s.len) made.value)

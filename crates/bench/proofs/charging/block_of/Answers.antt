@@ -15,6 +15,6 @@ returns g c =
     let rules = rules_of g.K.Kind.same g.K.Kind.charge c.args.list.now in
     let item = slice_get_read c.args.list.now _ c.in-Place.p c.index-list-p.result refl c.if-p-list.false c.index-list-p.is in
     record {
-      is = c.charged-block.ensures ∙ sym (ap (block_of rules) c.in-Place.is ∙ ap (charge_of rules) item);
-      small = small_block g.K.Kind.charge g.met.K.Kind.small c.index-list-p.result c.charged-block.result c.charged-block.ensures;
+      is = c.charged_block.ensures ∙ sym (ap (block_of rules) c.in-Place.is ∙ ap (charge_of rules) item);
+      small = small_block g.K.Kind.charge g.met.K.Kind.small c.index-list-p.result c.charged_block.result c.charged_block.ensures;
     }

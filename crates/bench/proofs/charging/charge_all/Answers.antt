@@ -7,7 +7,7 @@ use Rattle.agreement.specs.Views.{rules_of}
 use Rattle.bench.specs.Tables.{in_set, tally_of}
 use Rattle.bench.proofs.Charges.{charged_none, charged_more, charged_all, none_charged}
 use Rattle.bench.proofs.charging.charge_all.Goals as goal
-use Rattle.bench.proofs.charging.charge_all.Goals.{then-is-correct, else-is-correct}
+use Rattle.bench.proofs.charging.charge_all.Goals.{then-is_correct, else-is_correct}
 
 pub loop-q-init : goal.loop-q-init
 loop-q-init g c p b =
@@ -23,12 +23,12 @@ loop-q-preserved g c p b =
     let q = c.loop-q.q in
     let sofar = tally_of c.loop-q.registers p b in
     let old = tally_of c.args.registers.now p b in
-    elim c.if-is-correct.branch [
-      | then-is-correct w ↦
-          charged_more test p old q sofar _ (charges rules (verdict q) b) (ap (λ x. x && charges rules (verdict q) b) (sym c.is-correct.ensures ∙ w.if-is-correct.true)) (c.loop-q.invariant p b)
-          (ap (λ x. tally_of x p b) w.registers-is ∙ w.charge-one.ensures p b ∙ ap (λ d. cond (eqb p q && charges rules d b) (raised sofar) sofar) w.verdict-verdict.ensures)
-      | else-is-correct w ↦
-          charged_more test p old q sofar _ false (ap (λ x. x && charges rules (verdict q) b) (sym c.is-correct.ensures ∙ w.if-is-correct.false)) (c.loop-q.invariant p b)
+    elim c.if-is_correct.branch [
+      | then-is_correct w ↦
+          charged_more test p old q sofar _ (charges rules (verdict q) b) (ap (λ x. x && charges rules (verdict q) b) (sym c.is_correct.ensures ∙ w.if-is_correct.true)) (c.loop-q.invariant p b)
+          (ap (λ x. tally_of x p b) w.registers-is ∙ w.charge_one.ensures p b ∙ ap (λ d. cond (eqb p q && charges rules d b) (raised sofar) sofar) w.verdict-verdict.ensures)
+      | else-is_correct w ↦
+          charged_more test p old q sofar _ false (ap (λ x. x && charges rules (verdict q) b) (sym c.is_correct.ensures ∙ w.if-is_correct.false)) (c.loop-q.invariant p b)
           (ap (λ x. tally_of x p b) w.registers-is ∙ none_charged (eqb p q) sofar)
     ]
 

@@ -9,7 +9,7 @@ returns-in-Some g c p b =
     let old = tally_of c.args.registers.now p b in
     c.charge.ensures p b ∙ ap (λ o. cond (eqb p c.args.q && is_block o b) (raised old) old) c.in-Some.ensures.is
 
-pub returns-in-default : goal.returns-in-default
-returns-in-default g c p b =
+pub returns-in_default : goal.returns-in_default
+returns-in_default g c p b =
     let old = tally_of c.args.registers.now p b in
-    none_charged (eqb p c.args.q) old ∙ ap (λ o. cond (eqb p c.args.q && is_block o b) (raised old) old) c.in-default.ensures.is
+    none_charged (eqb p c.args.q) old ∙ ap (λ o. cond (eqb p c.args.q && is_block o b) (raised old) old) c.in_default.ensures.is

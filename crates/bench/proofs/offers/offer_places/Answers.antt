@@ -26,7 +26,7 @@ pub unreachable-requires : goal.unreachable-requires
 unreachable-requires g c =
     let test = in_set c.args.news.now in
     let can = still_can g.C.Carriage g.met.C.Carriage.offers_one c.loop-v.invariant test c.args.round c.requires in
-    no_refusal c.in-default.field-0 _ c.in-default.ensures.refusal (offerable_taken (g.C.Carriage.model c.loop-v.carriage) test c.args.round c.args.q c.loop-v.v can (sym c.if-contains.ensures))
+    no_refusal c.in_default.field-0 _ c.in_default.ensures.refusal (offerable_taken (g.C.Carriage.model c.loop-v.carriage) test c.args.round c.args.q c.loop-v.v can (sym c.if-contains.ensures))
 
 pub returns : goal.returns
 returns g c =

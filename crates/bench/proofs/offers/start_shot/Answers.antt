@@ -14,14 +14,14 @@ unreachable-requires g c =
     let fit = subst (Startable m s) c.in-Some.is c.requires in
     let fresh = g.met.C.Carriage.starts_afresh _ _ c.start.ensures in
     let fine : offer_fault (afresh m) (triple s v 1) ≡ None = not_refused (afresh m) s v 1 fit.0 fit.1 refl (omega arith) in
-    no_refusal c.in-default-offer.field-0 _ c.in-default-offer.ensures.refusal (ap (λ k. offer_fault k (triple s v 1)) fresh ∙ fine)
+    no_refusal c.in_default-offer.field-0 _ c.in_default-offer.ensures.refusal (ap (λ k. offer_fault k (triple s v 1)) fresh ∙ fine)
 
 pub returns-in-Ok : goal.returns-in-Ok
 returns-in-Ok g c =
     let offers = subst (λ p. Offered g.C.Carriage c.start.new.self (first_offers c.args.sender p) c.offer.new.self) (sym c.in-Some.is) (more c.in-Ok.ensures.does none) in
     record { fresh = c.start.new.self; starts = c.start.ensures; offers = offers }
 
-pub returns-in-default : goal.returns-in-default
-returns-in-default g c =
-    let offers = subst (λ p. Offered g.C.Carriage c.start.new.self (first_offers c.args.sender p) c.start.new.self) (sym c.in-default.is) none in
+pub returns-in_default : goal.returns-in_default
+returns-in_default g c =
+    let offers = subst (λ p. Offered g.C.Carriage c.start.new.self (first_offers c.args.sender p) c.start.new.self) (sym c.in_default.is) none in
     record { fresh = c.start.new.self; starts = c.start.ensures; offers = offers }

@@ -11,11 +11,11 @@ loop-j-init g c = vouched_none (g.C.Carriage.model c.args.carriage.now) c.args.q
 pub loop-j-preserved : goal.loop-j-preserved
 loop-j-preserved g c =
     vouched_more (g.C.Carriage.model c.args.carriage.now) c.args.q c.args.v c.loop-j.j c.args.p
-    ∙ or_from _ _ (sym c.if-has-accepted.ensures) c.loop-j.invariant
+    ∙ or_from _ _ (sym c.if-has_accepted.ensures) c.loop-j.invariant
 
-pub returns-then-has-accepted : goal.returns-then-has-accepted
-returns-then-has-accepted g c =
-    sym (vouched_by (g.C.Carriage.model c.args.carriage.now) c.args.q c.args.v c.args.rounds c.args.p (c.loop-j.j + 1) (omega arith) (omega arith) (sym c.if-has-accepted.ensures))
+pub returns-then-has_accepted : goal.returns-then-has_accepted
+returns-then-has_accepted g c =
+    sym (vouched_by (g.C.Carriage.model c.args.carriage.now) c.args.q c.args.v c.args.rounds c.args.p (c.loop-j.j + 1) (omega arith) (omega arith) (sym c.if-has_accepted.ensures))
 
 pub returns : goal.returns
 returns g c =

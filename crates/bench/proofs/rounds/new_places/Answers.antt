@@ -13,7 +13,7 @@ loop-q-init g c p w =
 pub loop-q-preserved : goal.loop-q-preserved
 loop-q-preserved g c p w =
     let new = is_new_to (g.C.Carriage.model c.args.carriage.now) c.args.sender (in_set c.args.before.now) c.args.round in
-    c.add-new.ensures p w ∙ ap (λ b. (eqb p c.loop-q.q && new p w) || b) (c.loop-q.invariant p w) ∙ group_more p c.loop-q.q (new p w)
+    c.add_new.ensures p w ∙ ap (λ b. (eqb p c.loop-q.q && new p w) || b) (c.loop-q.invariant p w) ∙ group_more p c.loop-q.q (new p w)
 
 pub returns : goal.returns
 returns g c p v =

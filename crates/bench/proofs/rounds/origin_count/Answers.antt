@@ -3,7 +3,7 @@ use Rattle.sets.specs.Sets.{count}
 use Rattle.agreement.specs.Extraction.{vouched}
 use Rattle.bench.proofs.Filled.{count_start, count_then, count_else}
 use Rattle.bench.proofs.rounds.origin_count.Goals as goal
-use Rattle.bench.proofs.rounds.origin_count.Goals.{then-has-vouched, else-has-vouched}
+use Rattle.bench.proofs.rounds.origin_count.Goals.{then-has_vouched, else-has_vouched}
 
 pub loop-p-init : goal.loop-p-init
 loop-p-init g c = (omega arith, count_start (vouched (g.C.Carriage.model c.args.carriage.now) c.args.q c.args.v c.args.rounds))
@@ -11,11 +11,11 @@ loop-p-init g c = (omega arith, count_start (vouched (g.C.Carriage.model c.args.
 pub loop-p-preserved : goal.loop-p-preserved
 loop-p-preserved g c =
     let test = vouched (g.C.Carriage.model c.args.carriage.now) c.args.q c.args.v c.args.rounds in
-    elim c.if-has-vouched.branch [
-      | then-has-vouched w ↦
-          (omega (arith, w.total-is), w.total-is ∙ count_then c.loop-p.p test c.loop-p.total (sym c.has-vouched.ensures ∙ w.if-has-vouched.true) c.loop-p.invariant.1)
-      | else-has-vouched w ↦
-          (omega (arith, w.total-is), w.total-is ∙ count_else c.loop-p.p test c.loop-p.total (sym c.has-vouched.ensures ∙ w.if-has-vouched.false) c.loop-p.invariant.1)
+    elim c.if-has_vouched.branch [
+      | then-has_vouched w ↦
+          (omega (arith, w.total-is), w.total-is ∙ count_then c.loop-p.p test c.loop-p.total (sym c.has_vouched.ensures ∙ w.if-has_vouched.true) c.loop-p.invariant.1)
+      | else-has_vouched w ↦
+          (omega (arith, w.total-is), w.total-is ∙ count_else c.loop-p.p test c.loop-p.total (sym c.has_vouched.ensures ∙ w.if-has_vouched.false) c.loop-p.invariant.1)
     ]
 
 pub returns : goal.returns

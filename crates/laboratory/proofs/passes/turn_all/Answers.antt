@@ -20,7 +20,7 @@ pub unreachable-requires : goal.unreachable-requires
 unreachable-requires g c =
     let met = g.met.C.Carriage in
     let keeps : Keeps g.C.Carriage = record { lawful = met.lawful; starts = met.starts_afresh; offers = met.offers_one; injects = met.injects_nothing; turns = met.turns_on } in
-    no_refusal c.in-default.field-0 _ c.in-default.ensures.refusal
+    no_refusal c.in_default.field-0 _ c.in_default.ensures.refusal
     (next_fine g.C.Carriage keeps (view_of c.args.bench.now) (view_of c.loop-k.bench) c.args.count c.loop-k.k c.requires c.loop-k-test.true c.loop-k.invariant)
 
 pub returns : goal.returns

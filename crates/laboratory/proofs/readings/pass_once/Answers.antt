@@ -15,36 +15,36 @@ use Rattle.laboratory.proofs.readings.pass_once.Goals as goal
 pub unreachable-requires : goal.unreachable-requires
 unreachable-requires g c =
     let rules = rules_of g.K.Kind.same g.K.Kind.charge c.args.list.now in
-    let played = c.in-ok-play.ensures in
-    no_refusal c.in-default.field-0 _ c.in-default.ensures.refusal
+    let played = c.in_ok-play.ensures in
+    no_refusal c.in_default.field-0 _ c.in_default.ensures.refusal
     (ap (λ n. close_fault g.C.Carriage rules (view_of c.play.new.bench) (n + 1)) c.closed-shot.ensures ∙ close_fine g.C.Carriage rules played.played (sym played.refusal))
 
-pub returns-in-err-verdict : goal.returns-in-err-verdict
-returns-in-err-verdict g c =
+pub returns-in_err-verdict : goal.returns-in_err-verdict
+returns-in_err-verdict g c =
     let rules = rules_of g.K.Kind.same g.K.Kind.charge c.args.list.now in
-    let played = c.in-ok-play.ensures in
+    let played = c.in_ok-play.ensures in
     let asked = verdict_asked g.C.Carriage rules played.played c.args.q in
-    rw (handed c.from-residual-in-err-verdict.result _ c.from-residual-in-err-verdict.ensures.1)
-    (record { refusal = hit _ (option_map Value (block_fault c.args.block)) _ (fault_of_err _ _ _ c.in-err-verdict.ensures.is ∙ asked) ∙ past _ _ played.refusal; passed = tt })
+    rw (handed c.from-residual-in_err-verdict.result _ c.from-residual-in_err-verdict.ensures.1)
+    (record { refusal = hit _ (option_map Value (block_fault c.args.block)) _ (fault_of_err _ _ _ c.in_err-verdict.ensures.is ∙ asked) ∙ past _ _ played.refusal; passed = tt })
 
-pub returns-in-err-tally : goal.returns-in-err-tally
-returns-in-err-tally g c =
+pub returns-in_err-tally : goal.returns-in_err-tally
+returns-in_err-tally g c =
     let rules = rules_of g.K.Kind.same g.K.Kind.charge c.args.list.now in
-    let played = c.in-ok-play.ensures in
-    let asked = fault_of_ok _ _ _ c.in-ok-verdict.ensures.is ∙ verdict_asked g.C.Carriage rules played.played c.args.q in
+    let played = c.in_ok-play.ensures in
+    let asked = fault_of_ok _ _ _ c.in_ok-verdict.ensures.is ∙ verdict_asked g.C.Carriage rules played.played c.args.q in
     let reader = closed_reader g.C.Carriage rules played.played (sym played.refusal) (c.closed-shot.result + 1) (ap (λ n. n + 1) c.closed-shot.ensures) (view_of c.close.new.self) c.in-Ok.ensures.does c.args.q in
-    rw (handed c.from-residual-in-err-tally.result _ c.from-residual-in-err-tally.ensures.1)
-    (record { refusal = fault_of_err _ _ _ c.in-err-tally.ensures ∙ first_alone _ _ (reader ∙ sym asked) ∙ past _ _ asked ∙ past _ _ played.refusal; passed = tt })
+    rw (handed c.from-residual-in_err-tally.result _ c.from-residual-in_err-tally.ensures.1)
+    (record { refusal = fault_of_err _ _ _ c.in_err-tally.ensures ∙ first_alone _ _ (reader ∙ sym asked) ∙ past _ _ asked ∙ past _ _ played.refusal; passed = tt })
 
 pub returns : goal.returns
 returns g c =
     let rules = rules_of g.K.Kind.same g.K.Kind.charge c.args.list.now in
-    let played = c.in-ok-play.ensures in
-    let asked = fault_of_ok _ _ _ c.in-ok-verdict.ensures.is ∙ verdict_asked g.C.Carriage rules played.played c.args.q in
-    let block : None ≡ option_map Value (block_fault c.args.block) = sym (first_none (option_map Value (block_fault c.args.block)) _ (sym (fault_of_ok _ _ _ c.in-ok-tally.ensures))).0 in
+    let played = c.in_ok-play.ensures in
+    let asked = fault_of_ok _ _ _ c.in_ok-verdict.ensures.is ∙ verdict_asked g.C.Carriage rules played.played c.args.q in
+    let block : None ≡ option_map Value (block_fault c.args.block) = sym (first_none (option_map Value (block_fault c.args.block)) _ (sym (fault_of_ok _ _ _ c.in_ok-tally.ensures))).0 in
     record {
       refusal = block ∙ past _ _ asked ∙ past _ _ played.refusal;
       passed =
           passed_once g.C.Carriage rules played.played (sym played.refusal) (c.closed-shot.result + 1) (ap (λ n. n + 1) c.closed-shot.ensures) (view_of c.close.new.self) c.in-Ok.ensures.does
-          c.args.q c.args.block _ c.in-ok-verdict.ensures.is c.in-ok-tally.ensures;
+          c.args.q c.args.block _ c.in_ok-verdict.ensures.is c.in_ok-tally.ensures;
     }

@@ -12,27 +12,27 @@ use Rattle.laboratory.proofs.readings.three_shots.Goals as goal
 pub unreachable-requires : goal.unreachable-requires
 unreachable-requires g c =
     let rules = rules_of g.K.Kind.same g.K.Kind.charge c.args.list.now in
-    let one = c.in-ok-first.ensures in
-    let room : (view_of c.pass-once.new.bench).closed < 999 = omega (arith, one.passed.closed, ap (λ v. v.closed) c.in-Ok.ensures.view) in
-    no_refusal c.in-default.field-0 _ c.in-default.ensures.refusal
-    (pass_again g.C.Carriage rules c.args.order.now.sender (option_map (λ x. x.now) c.args.order.now.value) (view_of c.in-Ok.bench) (view_of c.pass-once.new.bench) c.args.q c.args.block _ one.passed room one.refusal)
+    let one = c.in_ok-first.ensures in
+    let room : (view_of c.pass_once.new.bench).closed < 999 = omega (arith, one.passed.closed, ap (λ v. v.closed) c.in-Ok.ensures.view) in
+    no_refusal c.in_default.field-0 _ c.in_default.ensures.refusal
+    (pass_again g.C.Carriage rules c.args.order.now.sender (option_map (λ x. x.now) c.args.order.now.value) (view_of c.in-Ok.bench) (view_of c.pass_once.new.bench) c.args.q c.args.block _ one.passed room one.refusal)
 
-pub unreachable-requires-in-default-pass-once : goal.unreachable-requires-in-default-pass-once
-unreachable-requires-in-default-pass-once g c =
+pub unreachable-requires-in_default-pass_once : goal.unreachable-requires-in_default-pass_once
+unreachable-requires-in_default-pass_once g c =
     let rules = rules_of g.K.Kind.same g.K.Kind.charge c.args.list.now in
-    let one = c.in-ok-first.ensures in
-    let two = c.in-Ok-pass-once.ensures in
-    let room : (view_of c.pass-once-2.new.bench).closed < 999 = omega (arith, two.passed.closed, one.passed.closed, ap (λ v. v.closed) c.in-Ok.ensures.view) in
-    no_refusal c.in-default-pass-once.field-0 _ c.in-default-pass-once.ensures.refusal
-    (pass_again g.C.Carriage rules c.args.order.now.sender (option_map (λ x. x.now) c.args.order.now.value) (view_of c.pass-once.new.bench) (view_of c.pass-once-2.new.bench) c.args.q c.args.block _ two.passed room two.refusal)
+    let one = c.in_ok-first.ensures in
+    let two = c.in-Ok-pass_once.ensures in
+    let room : (view_of c.pass_once-2.new.bench).closed < 999 = omega (arith, two.passed.closed, one.passed.closed, ap (λ v. v.closed) c.in-Ok.ensures.view) in
+    no_refusal c.in_default-pass_once.field-0 _ c.in_default-pass_once.ensures.refusal
+    (pass_again g.C.Carriage rules c.args.order.now.sender (option_map (λ x. x.now) c.args.order.now.value) (view_of c.pass_once.new.bench) (view_of c.pass_once-2.new.bench) c.args.q c.args.block _ two.passed room two.refusal)
 
-pub returns-in-err-first : goal.returns-in-err-first
-returns-in-err-first g c =
+pub returns-in_err-first : goal.returns-in_err-first
+returns-in_err-first g c =
     let rules = rules_of g.K.Kind.same g.K.Kind.charge c.args.list.now in
     let open-bench = c.in-Ok.ensures in
     rw (handed c.from-residual.result _ c.from-residual.ensures.1)
     (record {
-      refusal = c.in-err-first.ensures.refusal ∙ shot_first g.C.Carriage rules c.args.carriage (view_of c.in-Ok.bench) c.args.order.now.sender (option_map (λ x. x.now) c.args.order.now.value) (λ m. read_fault m c.args.q c.args.block) open-bench.view open-bench.refusal;
+      refusal = c.in_err-first.ensures.refusal ∙ shot_first g.C.Carriage rules c.args.carriage (view_of c.in-Ok.bench) c.args.order.now.sender (option_map (λ x. x.now) c.args.order.now.value) (λ m. read_fault m c.args.q c.args.block) open-bench.view open-bench.refusal;
       retires = tt;
     })
 
@@ -40,8 +40,8 @@ pub returns : goal.returns
 returns g c =
     let rules = rules_of g.K.Kind.same g.K.Kind.charge c.args.list.now in
     let open-bench = c.in-Ok.ensures in
-    let one = c.in-ok-first.ensures in
+    let one = c.in_ok-first.ensures in
     record {
       refusal = one.refusal ∙ shot_first g.C.Carriage rules c.args.carriage (view_of c.in-Ok.bench) c.args.order.now.sender (option_map (λ x. x.now) c.args.order.now.value) (λ m. read_fault m c.args.q c.args.block) open-bench.view open-bench.refusal;
-      retires = retires g.C.Carriage rules c.args.q c.args.block _ _ _ open-bench.law one.passed c.in-Ok-pass-once.ensures.passed c.in-Ok-pass-once-2.ensures.passed;
+      retires = retires g.C.Carriage rules c.args.q c.args.block _ _ _ open-bench.law one.passed c.in-Ok-pass_once.ensures.passed c.in-Ok-pass_once-2.ensures.passed;
     }

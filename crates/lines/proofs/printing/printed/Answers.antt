@@ -9,5 +9,5 @@ returns-in-Ok c =
     let out = out_text (option_map vec_items p.out) in
     c.in-Ok.ensures.bytes
     ∙ ap (λ y. y ++ end_line p.taken p.refused)
-    (c.in-ok-push-out.ensures ∙ ap (λ y. y ++ out) (c.in-ok-push-happenings.ensures ∙ (λ i. c.new-text.ensures.bytes i ++ happening_lines (c.deref.ensures.value i))))
+    (c.in_ok-push_out.ensures ∙ ap (λ y. y ++ out) (c.in_ok-push_happenings.ensures ∙ (λ i. c.new-text.ensures.bytes i ++ happening_lines (c.deref.ensures.value i))))
     ∙ append_assoc (happening_lines (vec_items p.events)) out (end_line p.taken p.refused)

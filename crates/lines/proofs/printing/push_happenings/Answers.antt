@@ -6,7 +6,7 @@ use Rattle.lines.proofs.printing.push_happenings.Goals as goal
 
 pub loop-happening-preserved : goal.loop-happening-preserved
 loop-happening-preserved c =
-    happening_step c.args.happenings.now c.loop-happening.happening-index _ _ _ c.loop-happening-test.true c.in-ok-push-happening.ensures ∙ c.loop-happening.invariant
+    happening_step c.args.happenings.now c.loop-happening.happening-index _ _ _ c.loop-happening-test.true c.in_ok-push_happening.ensures ∙ c.loop-happening.invariant
 
 pub returns : goal.returns
 returns c =

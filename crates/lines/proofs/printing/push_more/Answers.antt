@@ -6,7 +6,7 @@ use Rattle.lines.proofs.printing.push_more.Goals as goal
 
 pub loop-block-preserved : goal.loop-block-preserved
 loop-block-preserved c =
-    block_step c.args.blocks.now c.loop-block.block-index _ _ _ _ c.loop-block-test.true c.in-ok-push-str.ensures.bytes c.in-ok-push-number.ensures ∙ c.loop-block.invariant
+    block_step c.args.blocks.now c.loop-block.block-index _ _ _ _ c.loop-block-test.true c.in_ok-push_str.ensures.bytes c.in_ok-push_number.ensures ∙ c.loop-block.invariant
 
 pub returns : goal.returns
 returns c =

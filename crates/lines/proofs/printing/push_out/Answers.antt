@@ -5,8 +5,8 @@ use Rattle.lines.proofs.printing.push_out.Goals as goal
 
 pub returns : goal.returns
 returns c =
-    c.in-ok-push-str-2.ensures.bytes
-    ∙ ap (λ y. y ++ 10 ∷ []) (c.in-ok-push-blocks.ensures ∙ ap (λ y. y ++ marks_shown c.deref.result.now) c.in-ok-push-str.ensures.bytes ∙ append_assoc (string_bytes c.args.text.now) (codes "out=") (marks_shown c.deref.result.now))
+    c.in_ok-push_str-2.ensures.bytes
+    ∙ ap (λ y. y ++ 10 ∷ []) (c.in_ok-push_blocks.ensures ∙ ap (λ y. y ++ marks_shown c.deref.result.now) c.in_ok-push_str.ensures.bytes ∙ append_assoc (string_bytes c.args.text.now) (codes "out=") (marks_shown c.deref.result.now))
     ∙ append_assoc (string_bytes c.args.text.now) (codes "out=" ++ marks_shown c.deref.result.now) (10 ∷ [])
     ∙ ap (λ bs. string_bytes c.args.text.now ++ out_line bs) c.deref.ensures.value
     ∙ ap (λ o. string_bytes c.args.text.now ++ out_text (option_map vec_items o)) (sym c.in-Some.is)

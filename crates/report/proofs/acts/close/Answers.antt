@@ -7,26 +7,26 @@ use Rattle.report.proofs.acts.close.Goals as goal
 
 pub unreachable-requires : goal.unreachable-requires
 unreachable-requires g c =
-    let low = subst (λ k. Lowest k c.lowest-correct-lowest.result) c.group.ensures c.lowest-correct-lowest.ensures in
-    always_shown g.C.Carriage (rules_of g.K.Kind.same g.K.Kind.charge c.args.list.now) (view_of c.args.bench.now) c.args.shot c.in-ok-close.ensures.refusal c.lowest-correct-lowest.result c.in-default.field-0
-    low.0 c.in-default.ensures.is
+    let low = subst (λ k. Lowest k c.lowest_correct-lowest.result) c.group.ensures c.lowest_correct-lowest.ensures in
+    always_shown g.C.Carriage (rules_of g.K.Kind.same g.K.Kind.charge c.args.list.now) (view_of c.args.bench.now) c.args.shot c.in_ok-close.ensures.refusal c.lowest_correct-lowest.result c.in_default.field-0
+    low.0 c.in_default.ensures.is
 
-pub unreachable-requires-in-default-sent : goal.unreachable-requires-in-default-sent
-unreachable-requires-in-default-sent g c =
-    always_sent g.C.Carriage (rules_of g.K.Kind.same g.K.Kind.charge c.args.list.now) (view_of c.args.bench.now) c.args.shot c.in-ok-close.ensures.refusal c.in-default-sent.ensures
+pub unreachable-requires-in_default-sent : goal.unreachable-requires-in_default-sent
+unreachable-requires-in_default-sent g c =
+    always_sent g.C.Carriage (rules_of g.K.Kind.same g.K.Kind.charge c.args.list.now) (view_of c.args.bench.now) c.args.shot c.in_ok-close.ensures.refusal c.in_default-sent.ensures
 
 pub returns : goal.returns
 returns g c =
-    let taken = c.in-ok-close.ensures in
+    let taken = c.in_ok-close.ensures in
     record {
       refusal = taken.refusal;
       does = (
         taken.does,
         record {
-          lowest = c.lowest-correct-lowest.result;
+          lowest = c.lowest_correct-lowest.result;
           sender = c.in-Some.sender;
           verdict = c.in-Ok.verdict;
-          is_lowest = subst (λ k. Lowest k c.lowest-correct-lowest.result) c.group.ensures c.lowest-correct-lowest.ensures;
+          is_lowest = subst (λ k. Lowest k c.lowest_correct-lowest.result) c.group.ensures c.lowest_correct-lowest.ensures;
           sent = sym c.in-Some.ensures;
           shown = sym c.in-Ok.ensures.is;
           told = refl;

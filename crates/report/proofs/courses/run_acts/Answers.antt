@@ -20,17 +20,17 @@ loop-reader-init g c = (
 pub loop-reader-preserved : goal.loop-reader-preserved
 loop-reader-preserved g c =
     let some : 0 < length (left c.loop-reader.reader) = omega (arith, eqb-false _ 0 (sym c.loop-reader-test.ensures)) in
-    let noted = c.in-ok-note.ensures in
-    let run = c.run-line-outcome.ensures in
+    let noted = c.in_ok-note.ensures in
+    let run = c.run_line-outcome.ensures in
     let shrinks = line_shrinks run.line some in
-    let one = counted c.run-line-outcome.result in
+    let one = counted c.run_line-outcome.result in
     let more = course_more (vec_items c.note.new.report.events) c.note.new.report.taken c.note.new.report.refused c.loop-reader.invariant.2 some run noted.0 noted.1 noted.2 in
     (omega (arith, c.loop-reader.invariant.0, shrinks, one, noted.1, noted.2), more.0, more.1)
 
 pub loop-reader-smaller : goal.loop-reader-smaller
 loop-reader-smaller g c =
     let some : 0 < length (left c.loop-reader.reader) = omega (arith, eqb-false _ 0 (sym c.loop-reader-test.ensures)) in
-    line_shrinks c.run-line-outcome.ensures.line some
+    line_shrinks c.run_line-outcome.ensures.line some
 
 pub note-requires : goal.note-requires
 note-requires g c =

@@ -5,23 +5,23 @@ use Rattle.groups.specs.Groups.{Lowest}
 use Rattle.report.specs.Pool.{full, risen}
 use Rattle.report.proofs.Rising.{risen_none, risen_in, risen_past}
 use Rattle.report.proofs.pool.out_blocks.Goals as goal
-use Rattle.report.proofs.pool.out_blocks.Goals.{then-is-out+in-ok-push, else-is-out}
+use Rattle.report.proofs.pool.out_blocks.Goals.{then-is-out+in-ok-push, else-is_out}
 
 pub loop-block-init : goal.loop-block-init
 loop-block-init g c = c.new-out.ensures.items ∙ sym (risen_none _)
 
 pub loop-block-preserved : goal.loop-block-preserved
 loop-block-preserved g c =
-    elim c.if-is-out.branch [
+    elim c.if-is_out.branch [
       | then-is-out+in-ok-push w ↦
-          ap vec_items w.out-is ∙ risen_in _ c.loop-block.block (vec_items c.loop-block.out) _ c.loop-block.invariant (sym c.is-out.ensures ∙ w.if-is-out.true) w.in-ok-push.ensures.items
-      | else-is-out w ↦ ap vec_items w.out-is ∙ risen_past _ c.loop-block.block (vec_items c.loop-block.out) c.loop-block.invariant (sym c.is-out.ensures ∙ w.if-is-out.false)
+          ap vec_items w.out-is ∙ risen_in _ c.loop-block.block (vec_items c.loop-block.out) _ c.loop-block.invariant (sym c.is_out.ensures ∙ w.if-is_out.true) w.in_ok-push.ensures.items
+      | else-is_out w ↦ ap vec_items w.out-is ∙ risen_past _ c.loop-block.block (vec_items c.loop-block.out) c.loop-block.invariant (sym c.is_out.ensures ∙ w.if-is_out.false)
     ]
 
 pub returns : goal.returns
 returns g c =
     let all : c.loop-block.block ≡ 64 = omega arith in
     let v = view_of c.args.bench.now in
-    let q = c.lowest-correct-lowest.result in
-    let low = subst (λ k. Lowest k q) c.group.ensures c.lowest-correct-lowest.ensures in
+    let q = c.lowest_correct-lowest.result in
+    let low = subst (λ k. Lowest k q) c.group.ensures c.lowest_correct-lowest.ensures in
     (q, low, c.loop-block.invariant ∙ ap (λ (n : ℕ). risen n (λ b. full (tally_answer g.C.Carriage v q b))) all)

@@ -9,10 +9,10 @@ use Rattle.report.proofs.whole.run_bench.Goals as goal
 pub returns : goal.returns
 returns g c =
     let rules = rules_of g.K.Kind.same g.K.Kind.charge c.args.list.now in
-    let end = view_of c.run-acts.new.bench in
-    let p = c.in-ok-report.report in
-    let run = c.in-ok-report.ensures in
-    let pool = c.in-ok-out-blocks.ensures in
+    let end = view_of c.run_acts.new.bench in
+    let p = c.in_ok-report.report in
+    let run = c.in_ok-report.ensures in
+    let pool = c.in_ok-out_blocks.ensures in
     let u = c.in-Ok.ensures.view in
     let from-here : View g.row.C.Denot → Type 0 = λ u. Course g.C.Carriage rules g.K.Written.reads c.args.reader u (vec_items p.events) run.events p.taken p.refused run.end end in
     let course = subst from-here u run.course in

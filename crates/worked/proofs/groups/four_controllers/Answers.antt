@@ -4,9 +4,9 @@ use Rattle.bench.proofs.Chains.{no_refusal}
 use Rattle.worked.proofs.Table.{worked_cases, four_group, with_3}
 use Rattle.worked.proofs.groups.four_controllers.Goals as goal
 
-pub unreachable-requires-in-default-new : goal.unreachable-requires-in-default-new
-unreachable-requires-in-default-new c =
-    no_refusal c.in-default-new.field-0 _ c.in-default-new.ensures.refusal (four_group c.in-Ok.marks (with_3 _ c.none.result c.in-Ok.ensures.value c.none.ensures))
+pub unreachable-requires-in_default-new : goal.unreachable-requires-in_default-new
+unreachable-requires-in_default-new c =
+    no_refusal c.in_default-new.field-0 _ c.in_default-new.ensures.refusal (four_group c.in-Ok.marks (with_3 _ c.none.result c.in-Ok.ensures.value c.none.ensures))
 
 pub returns : goal.returns
 returns c =

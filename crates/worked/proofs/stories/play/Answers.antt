@@ -10,12 +10,12 @@ use Rattle.worked.proofs.stories.play.Goals.{In-Ok}
 -- the bench once the shot is begun
 begun : (g : given.Over) (c : In-Ok g) → At (view_of c.begin.new.self) at1
 begun g c =
-    begun_at (rules_of g.K.Kind.same g.K.Kind.charge c.args.list.now) _ c.no-value.ensures (opened_at (view_of c.args.bench.now) c.requires.fresh c.requires.four) c.in-Ok.ensures.does
+    begun_at (rules_of g.K.Kind.same g.K.Kind.charge c.args.list.now) _ c.no_value.ensures (opened_at (view_of c.args.bench.now) c.requires.fresh c.requires.four) c.in-Ok.ensures.does
 
 pub unreachable-requires : goal.unreachable-requires
 unreachable-requires g c =
-    no_refusal c.in-default.field-0 _ c.in-default.ensures.refusal
-    (may_begin (rules_of g.K.Kind.same g.K.Kind.charge c.args.list.now) c.requires.two _ c.no-value.ensures (opened_at (view_of c.args.bench.now) c.requires.fresh c.requires.four))
+    no_refusal c.in_default.field-0 _ c.in_default.ensures.refusal
+    (may_begin (rules_of g.K.Kind.same g.K.Kind.charge c.args.list.now) c.requires.two _ c.no_value.ensures (opened_at (view_of c.args.bench.now) c.requires.fresh c.requires.four))
 
 pub tell-requires : goal.tell-requires
 tell-requires g c = may_inject first_story (begun g (goal.at.tell-requires g c).In-Ok) fine1
@@ -26,22 +26,22 @@ tell-requires-2 g c = may_inject (second_story 1) (injected_to (begun g (goal.at
 pub tell-requires-3 : goal.tell-requires-3
 tell-requires-3 g c = may_inject (second_story 2) (injected_to (injected_to (begun g (goal.at.tell-requires-3 g c).In-Ok) c.tell.ensures) c.tell-2.ensures) fine3
 
-pub turn-on-requires : goal.turn-on-requires
-turn-on-requires g c = may_turn 1 (injected_to (injected_to (injected_to (begun g (goal.at.turn-on-requires g c).In-Ok) c.tell.ensures) c.tell-2.ensures) c.tell-3.ensures) fine4
+pub turn_on-requires : goal.turn_on-requires
+turn_on-requires g c = may_turn 1 (injected_to (injected_to (injected_to (begun g (goal.at.turn_on-requires g c).In-Ok) c.tell.ensures) c.tell-2.ensures) c.tell-3.ensures) fine4
 
 pub tell-requires-4 : goal.tell-requires-4
-tell-requires-4 g c = may_inject late_echo (turned_to (injected_to (injected_to (injected_to (begun g (goal.at.tell-requires-4 g c).In-Ok) c.tell.ensures) c.tell-2.ensures) c.tell-3.ensures) c.turn-on.ensures) fine5
+tell-requires-4 g c = may_inject late_echo (turned_to (injected_to (injected_to (injected_to (begun g (goal.at.tell-requires-4 g c).In-Ok) c.tell.ensures) c.tell-2.ensures) c.tell-3.ensures) c.turn_on.ensures) fine5
 
-pub turn-on-requires-2 : goal.turn-on-requires-2
-turn-on-requires-2 g c = may_turn 2 (injected_to (turned_to (injected_to (injected_to (injected_to (begun g (goal.at.turn-on-requires-2 g c).In-Ok) c.tell.ensures) c.tell-2.ensures) c.tell-3.ensures) c.turn-on.ensures) c.tell-4.ensures) fine6
+pub turn_on-requires-2 : goal.turn_on-requires-2
+turn_on-requires-2 g c = may_turn 2 (injected_to (turned_to (injected_to (injected_to (injected_to (begun g (goal.at.turn_on-requires-2 g c).In-Ok) c.tell.ensures) c.tell-2.ensures) c.tell-3.ensures) c.turn_on.ensures) c.tell-4.ensures) fine6
 
-pub turn-on-requires-3 : goal.turn-on-requires-3
-turn-on-requires-3 g c = may_turn 3 (turned_to (injected_to (turned_to (injected_to (injected_to (injected_to (begun g (goal.at.turn-on-requires-3 g c).In-Ok) c.tell.ensures) c.tell-2.ensures) c.tell-3.ensures) c.turn-on.ensures) c.tell-4.ensures) c.turn-on-2.ensures) fine7
+pub turn_on-requires-3 : goal.turn_on-requires-3
+turn_on-requires-3 g c = may_turn 3 (turned_to (injected_to (turned_to (injected_to (injected_to (injected_to (begun g (goal.at.turn_on-requires-3 g c).In-Ok) c.tell.ensures) c.tell-2.ensures) c.tell-3.ensures) c.turn_on.ensures) c.tell-4.ensures) c.turn_on-2.ensures) fine7
 
-pub turn-on-requires-4 : goal.turn-on-requires-4
-turn-on-requires-4 g c = may_turn 4 (turned_to (turned_to (injected_to (turned_to (injected_to (injected_to (injected_to (begun g (goal.at.turn-on-requires-4 g c).In-Ok) c.tell.ensures) c.tell-2.ensures) c.tell-3.ensures) c.turn-on.ensures) c.tell-4.ensures) c.turn-on-2.ensures) c.turn-on-3.ensures) fine8
+pub turn_on-requires-4 : goal.turn_on-requires-4
+turn_on-requires-4 g c = may_turn 4 (turned_to (turned_to (injected_to (turned_to (injected_to (injected_to (injected_to (begun g (goal.at.turn_on-requires-4 g c).In-Ok) c.tell.ensures) c.tell-2.ensures) c.tell-3.ensures) c.turn_on.ensures) c.tell-4.ensures) c.turn_on-2.ensures) c.turn_on-3.ensures) fine8
 
 pub returns : goal.returns
 returns g c =
-    told (rules_of g.K.Kind.same g.K.Kind.charge c.args.list.now) c.requires.two _ c.no-value.ensures (opened_at (view_of c.args.bench.now) c.requires.fresh c.requires.four) c.in-Ok.ensures.does
-    c.tell.ensures c.tell-2.ensures c.tell-3.ensures c.turn-on.ensures c.tell-4.ensures c.turn-on-2.ensures c.turn-on-3.ensures c.turn-on-4.ensures
+    told (rules_of g.K.Kind.same g.K.Kind.charge c.args.list.now) c.requires.two _ c.no_value.ensures (opened_at (view_of c.args.bench.now) c.requires.fresh c.requires.four) c.in-Ok.ensures.does
+    c.tell.ensures c.tell-2.ensures c.tell-3.ensures c.turn_on.ensures c.tell-4.ensures c.turn_on-2.ensures c.turn_on-3.ensures c.turn_on-4.ensures

@@ -14,7 +14,7 @@ use Rattle.worked.proofs.stories.two_stories.Goals as goal
 use Rattle.worked.proofs.stories.two_stories.Goals.{In-Ok-open, After-play}
 
 carriage_made : (g : given.Over) (c : In-Ok-open g) → MadeForFour c.in-Ok.carriage
-carriage_made g c = made_for_four c.in-Ok.carriage c.four-controllers.result c.in-Ok.ensures.value c.four-controllers.ensures.four
+carriage_made g c = made_for_four c.in-Ok.carriage c.four_controllers.result c.in-Ok.ensures.value c.four_controllers.ensures.four
 
 -- the list is not refused
 fine : (g : given.Over) (c : In-Ok-open g) → pair_fault g.K.Kind.same c.args.list.now ≡ None
@@ -35,29 +35,29 @@ play-requires g c =
       two = two_values (rules_of g.K.Kind.same g.K.Kind.charge c.args.list.now) (fine g open-bench);
     }
 
-pub shown-by-requires : goal.shown-by-requires
-shown-by-requires g c = ap is_ok (shown0 (ended g (goal.at.shown-by-requires g c).After-play (carriage_made g (goal.at.shown-by-requires g c).In-Ok-open)))
+pub shown_by-requires : goal.shown_by-requires
+shown_by-requires g c = ap is_ok (shown0 (ended g (goal.at.shown_by-requires g c).After-play (carriage_made g (goal.at.shown_by-requires g c).In-Ok-open)))
 
-pub shown-by-requires-2 : goal.shown-by-requires-2
-shown-by-requires-2 g c = ap is_ok (shown1 (ended g (goal.at.shown-by-requires-2 g c).After-play (carriage_made g (goal.at.shown-by-requires-2 g c).In-Ok-open)))
+pub shown_by-requires-2 : goal.shown_by-requires-2
+shown_by-requires-2 g c = ap is_ok (shown1 (ended g (goal.at.shown_by-requires-2 g c).After-play (carriage_made g (goal.at.shown_by-requires-2 g c).In-Ok-open)))
 
-pub shown-by-requires-3 : goal.shown-by-requires-3
-shown-by-requires-3 g c = ap is_ok (shown2 (ended g (goal.at.shown-by-requires-3 g c).After-play (carriage_made g (goal.at.shown-by-requires-3 g c).In-Ok-open)))
+pub shown_by-requires-3 : goal.shown_by-requires-3
+shown_by-requires-3 g c = ap is_ok (shown2 (ended g (goal.at.shown_by-requires-3 g c).After-play (carriage_made g (goal.at.shown_by-requires-3 g c).In-Ok-open)))
 
-pub unreachable-requires-in-default-close : goal.unreachable-requires-in-default-close
-unreachable-requires-in-default-close g c =
-    let open-bench = (goal.at.unreachable-requires-in-default-close g c).In-Ok-open in
-    no_refusal c.in-default-close.field-0 _ c.in-default-close.ensures.refusal
-    (may_close (rules_of g.K.Kind.same g.K.Kind.charge c.args.list.now) (two_values (rules_of g.K.Kind.same g.K.Kind.charge c.args.list.now) (fine g open-bench)) (ended g (goal.at.unreachable-requires-in-default-close g c).After-play (carriage_made g open-bench)))
+pub unreachable-requires-in_default-close : goal.unreachable-requires-in_default-close
+unreachable-requires-in_default-close g c =
+    let open-bench = (goal.at.unreachable-requires-in_default-close g c).In-Ok-open in
+    no_refusal c.in_default-close.field-0 _ c.in_default-close.ensures.refusal
+    (may_close (rules_of g.K.Kind.same g.K.Kind.charge c.args.list.now) (two_values (rules_of g.K.Kind.same g.K.Kind.charge c.args.list.now) (fine g open-bench)) (ended g (goal.at.unreachable-requires-in_default-close g c).After-play (carriage_made g open-bench)))
 
 pub returns : goal.returns
 returns g c =
     let open-bench = (goal.at.returns g c).In-Ok-open in
     let made = carriage_made g open-bench in
     let at-end = ended g (goal.at.returns g c).After-play made in
-    let first = sym c.shown-by.ensures ∙ shown0 at-end in
-    let second = sym c.shown-by-2.ensures ∙ shown1 at-end in
-    let third = sym c.shown-by-3.ensures ∙ shown2 at-end in
+    let first = sym c.shown_by.ensures ∙ shown0 at-end in
+    let second = sym c.shown_by-2.ensures ∙ shown1 at-end in
+    let third = sym c.shown_by-3.ensures ∙ shown2 at-end in
     record {
       refusal = sym (ap (option_map List) (fine g open-bench));
       shown = cc;

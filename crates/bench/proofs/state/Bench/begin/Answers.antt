@@ -11,6 +11,6 @@ start-requires g c =
     let rules = rules_of g.K.Kind.same g.K.Kind.charge c.args.list.now in
     let view = view_of c.args.self.now in
     let value = option_map (λ x. x.now) c.args.value in
-    let found = c.in-ok-place.ensures in
+    let found = c.in_ok-place.ensures in
     let may = may_begin g.C.Carriage rules view c.args.sender value (sym found.refusal) in
     (may.closed, startable (g.C.Carriage.model c.args.self.now.carriage) c.args.sender _ (λ p e. given_right g.C.Carriage rules view c.args.sender value may p (sym found.place ∙ e)))

@@ -13,7 +13,7 @@ returns g c =
     let view : ◌≡◌ {A = View g.row.C.Denot} (record { carriage = c.args.carriage; running = false; sender = 0; extracted = in_set c.empty.result; tally = tally_of c.empty-2.result; closed = 0 }) (opened c.args.carriage) =
     λ i. record { carriage = c.args.carriage; running = false; sender = 0; extracted = λ q v. c.empty.ensures q v i; tally = λ q b. c.empty-2.ensures q b i; closed = 0 } in
     record {
-      refusal = sym c.in-default.ensures;
+      refusal = sym c.in_default.ensures;
       view = view;
       law = subst (AllAgree g.C.Carriage rules) (sym view) (agreement g.C.Carriage rules keeps c.args.carriage);
     }

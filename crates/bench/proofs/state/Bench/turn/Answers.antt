@@ -13,16 +13,16 @@ pub unreachable-requires : goal.unreachable-requires
 unreachable-requires g c =
     let self = c.args.self.now in
     let m = g.C.Carriage.model self.carriage in
-    let now-is = turn_now self.progress.running m self.progress.closed c.args.phase (passed _ None _ (sym c.in-ok-check-moment.ensures)).0 in
-    no_refusal c.in-default.field-0 _ c.in-default.ensures.refusal now-is.1
+    let now-is = turn_now self.progress.running m self.progress.closed c.args.phase (passed _ None _ (sym c.in_ok-check_moment.ensures)).0 in
+    no_refusal c.in_default.field-0 _ c.in_default.ensures.refusal now-is.1
 
-pub offer-next-requires : goal.offer-next-requires
-offer-next-requires g c κs few =
+pub offer_next-requires : goal.offer_next-requires
+offer_next-requires g c κs few =
     let self = c.args.self.now in
     let m = g.C.Carriage.model self.carriage in
     let turned = c.turn.new.self in
-    let now-is = turn_now self.progress.running m self.progress.closed c.args.phase (passed _ None _ (sym c.in-ok-check-moment.ensures)).0 in
-    even_offerable (g.C.Carriage.model turned) self.progress.sender (in_set self.extracted) c.args.phase (eq-eqb (c.args.phase % 2) 0 c.if-phase-eq0.true) (in_set c.new-places-news.result) c.new-places-news.ensures
+    let now-is = turn_now self.progress.running m self.progress.closed c.args.phase (passed _ None _ (sym c.in_ok-check_moment.ensures)).0 in
+    even_offerable (g.C.Carriage.model turned) self.progress.sender (in_set self.extracted) c.args.phase (eq-eqb (c.args.phase % 2) 0 c.if-phase-eq0.true) (in_set c.new_places-news.result) c.new_places-news.ensures
     m (g.met.C.Carriage.turns_on self.carriage turned c.in-Ok.ensures.does) (g.met.C.Carriage.lawful turned) now-is.0 few
 
 pub returns-then-phase-eq0 : goal.returns-then-phase-eq0
@@ -33,17 +33,17 @@ returns-then-phase-eq0 g c =
     let before = in_set self.extracted in
     let turned = c.turn.new.self in
     let n = g.C.Carriage.model turned in
-    let now-is = turn_now self.progress.running m self.progress.closed c.args.phase (passed _ None _ (sym c.in-ok-check-moment.ensures)).0 in
+    let now-is = turn_now self.progress.running m self.progress.closed c.args.phase (passed _ None _ (sym c.in_ok-check_moment.ensures)).0 in
     let even : eqb (c.args.phase % 2) 0 ≡ true = eq-eqb (c.args.phase % 2) 0 c.if-phase-eq0.true in
-    let news = in_set c.new-places-news.result in
-    let found = c.new-places-news.ensures in
+    let news = in_set c.new_places-news.result in
+    let found = c.new_places-news.ensures in
     let listed = even_offers n s before c.args.phase even news found ∙ ap (λ (k : ℕ). offers_after n s before k) now-is.0 in
     record {
-      refusal = c.in-ok-check-moment.ensures;
+      refusal = c.in_ok-check_moment.ensures;
       does = record {
         turned = turned;
         turns = c.in-Ok.ensures.does;
-        offers = subst (λ (xs : List Triple). Offered g.C.Carriage turned xs c.offer-next.new.carriage) listed c.offer-next.ensures;
+        offers = subst (λ (xs : List Triple). Offered g.C.Carriage turned xs c.offer_next.new.carriage) listed c.offer_next.ensures;
         running = refl;
         sender = refl;
         extracted = even_sets n s before c.args.phase even news found (in_set c.add.new.self) c.add.ensures ∙ ap (λ (k : ℕ). sets_after n s before k) now-is.0;
@@ -60,11 +60,11 @@ returns-else-phase-eq0 g c =
     let before = in_set self.extracted in
     let turned = c.turn.new.self in
     let n = g.C.Carriage.model turned in
-    let now-is = turn_now self.progress.running m self.progress.closed c.args.phase (passed _ None _ (sym c.in-ok-check-moment.ensures)).0 in
+    let now-is = turn_now self.progress.running m self.progress.closed c.args.phase (passed _ None _ (sym c.in_ok-check_moment.ensures)).0 in
     let odd : eqb (c.args.phase % 2) 0 ≡ false = ne_eqb (c.args.phase % 2) 0 c.if-phase-eq0.false in
     let listed = odd_offers n s before c.args.phase odd ∙ ap (λ (k : ℕ). offers_after n s before k) now-is.0 in
     record {
-      refusal = c.in-ok-check-moment.ensures;
+      refusal = c.in_ok-check_moment.ensures;
       does = record {
         turned = turned;
         turns = c.in-Ok.ensures.does;

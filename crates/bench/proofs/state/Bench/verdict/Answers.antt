@@ -8,5 +8,5 @@ pub returns : goal.returns
 returns g c =
     let len = (g.C.Carriage.model c.args.self.now.carriage).len in
     let set = in_set c.args.self.now.extracted c.args.q in
-    let shown : c.verdict.result ≡ verdict_of len set = c.verdict.ensures ∙ ap (λ n. verdict_of n set) c.list-len.ensures in
+    let shown : c.verdict.result ≡ verdict_of len set = c.verdict.ensures ∙ ap (λ n. verdict_of n set) c.list_len.ensures in
     record { is = search rules; tells = subst (Tells len set) (sym shown) (verdict_tells len set) }

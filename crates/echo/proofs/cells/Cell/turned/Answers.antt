@@ -20,8 +20,8 @@ loop-q-preserved c =
     let row = echo_row c.args.echoes.now c.args.slot in
     let joins : ℕ → _ = λ j. cell_witness c.args.group.now c.args.phase c.args.round cell (row j) j in
     let takes : ℕ → _ = λ j. cell_accepts c.args.group.now c.args.phase c.args.round cell (row j) j in (
-      sweep_more (has cell.witness) joins (has c.loop-q.witness) (has c.with-if-witness.result) c.loop-q.q c.joins-joins.result c.loop-q.invariant.0 c.joins-joins.ensures c.with-if-witness.ensures,
-      sweep_more (has cell.accepted) takes (has c.loop-q.accepted) (has c.with-if-accepted.result) c.loop-q.q c.takes-takes.result c.loop-q.invariant.1 c.takes-takes.ensures c.with-if-accepted.ensures,
+      sweep_more (has cell.witness) joins (has c.loop-q.witness) (has c.with_if-witness.result) c.loop-q.q c.joins-joins.result c.loop-q.invariant.0 c.joins-joins.ensures c.with_if-witness.ensures,
+      sweep_more (has cell.accepted) takes (has c.loop-q.accepted) (has c.with_if-accepted.result) c.loop-q.q c.takes-takes.result c.loop-q.invariant.1 c.takes-takes.ensures c.with_if-accepted.ensures,
     )
 
 pub returns : goal.returns

@@ -5,10 +5,10 @@ use Rattle.groups.proofs.Marked.{someone_correct}
 use Rattle.groups.proofs.members.Group.lowest_correct.Goals as goal
 
 pub loop-q-preserved : goal.loop-q-preserved
-loop-q-preserved c = below_more _ _ c.loop-q.invariant (sym c.if-is-correct.ensures)
+loop-q-preserved c = below_more _ _ c.loop-q.invariant (sym c.if-is_correct.ensures)
 
-pub returns-then-is-correct : goal.returns-then-is-correct
-returns-then-is-correct c = (sym c.if-is-correct.ensures, c.loop-q.invariant)
+pub returns-then-is_correct : goal.returns-then-is_correct
+returns-then-is_correct c = (sym c.if-is_correct.ensures, c.loop-q.invariant)
 
 pub unreachable-requires : goal.unreachable-requires
 unreachable-requires c =

@@ -7,16 +7,16 @@ use Rattle.seal.proofs.Told.{tells_the_run}
 use Rattle.seal.proofs.Views.{start_view}
 use Rattle.seal.proofs.sealing.Seal.new.Goals as goal
 
-pub invariant-of-result : goal.invariant-of-result
-invariant-of-result c =
-    let long = length_allowed c.args.len (sym c.in-ok-check-length.ensures) in
-    let view = start_view c.args.group c.args.len 1 c.blank-cells.result c.blank-cells.result c.blank-cells.ensures.0 in
+pub invariant_of-result : goal.invariant_of-result
+invariant_of-result c =
+    let long = length_allowed c.args.len (sym c.in_ok-check_length.ensures) in
+    let view = start_view c.args.group c.args.len 1 c.blank_cells.result c.blank_cells.result c.blank_cells.ensures.0 in
     (long.0, (long.1, (omega arith, (omega arith, (∣ subst Sound (sym view) (fresh_sound c.args.group c.args.len) ∣₁, tt)))))
 
 pub returns : goal.returns
 returns c =
     record {
-      refusal = c.in-ok-check-length.ensures;
-      value = start_view c.args.group c.args.len 1 c.blank-cells.result c.blank-cells.result c.blank-cells.ensures.0;
-      runs = tells_the_run _ (start_view c.args.group c.args.len 1 c.blank-cells.result c.blank-cells.result c.blank-cells.ensures.0);
+      refusal = c.in_ok-check_length.ensures;
+      value = start_view c.args.group c.args.len 1 c.blank_cells.result c.blank_cells.result c.blank_cells.ensures.0;
+      runs = tells_the_run _ (start_view c.args.group c.args.len 1 c.blank_cells.result c.blank_cells.result c.blank_cells.ensures.0);
     }

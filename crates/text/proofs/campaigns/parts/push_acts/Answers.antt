@@ -13,9 +13,9 @@ loop-a-preserved g c =
     let i = c.loop-a.a-index in
     let a = c.a-item.result in
     let fits = ActFits g.K.Written.fits in (
-      act_step g.K.Written.shows xs i a _ _ _ _ c.loop-a-test.true c.a-item.is c.in-ok-push-str.ensures.bytes
-          (c.as-str.ensures.value ∙ c.in-ok-line.ensures.0) c.in-ok-push-str-2.ensures.bytes ∙ c.loop-a.invariant.0,
-      All-more fits xs i a c.loop-a-test.true c.loop-a.invariant.1 (subst fits c.a-item.is c.in-ok-line.ensures.1),
+      act_step g.K.Written.shows xs i a _ _ _ _ c.loop-a-test.true c.a-item.is c.in_ok-push_str.ensures.bytes
+          (c.as_str.ensures.value ∙ c.in_ok-line.ensures.0) c.in_ok-push_str-2.ensures.bytes ∙ c.loop-a.invariant.0,
+      All-more fits xs i a c.loop-a-test.true c.loop-a.invariant.1 (subst fits c.a-item.is c.in_ok-line.ensures.1),
     )
 
 pub returns : goal.returns

@@ -12,9 +12,9 @@ loop-v-preserved g c =
     let i = c.loop-v.v-index in
     let v = c.v-item.result in
     let fits = g.K.Written.fits in (
-      (λ rest. value_step g.K.Written.shows xs i v _ _ _ _ c.loop-v-test.true c.v-item.is c.in-ok-push-str.ensures.bytes
-          (c.as-str.ensures.value ∙ c.in-ok-line.ensures.ok) c.in-ok-fields.ensures.0 rest ∙ c.loop-v.invariant.0 rest),
-      All-more fits xs i v c.loop-v-test.true c.loop-v.invariant.1 (subst fits c.v-item.is c.in-ok-fields.ensures.1),
+      (λ rest. value_step g.K.Written.shows xs i v _ _ _ _ c.loop-v-test.true c.v-item.is c.in_ok-push_str.ensures.bytes
+          (c.as_str.ensures.value ∙ c.in_ok-line.ensures.ok) c.in_ok-fields.ensures.0 rest ∙ c.loop-v.invariant.0 rest),
+      All-more fits xs i v c.loop-v-test.true c.loop-v.invariant.1 (subst fits c.v-item.is c.in_ok-fields.ensures.1),
     )
 
 pub returns : goal.returns

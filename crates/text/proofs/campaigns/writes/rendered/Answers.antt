@@ -13,16 +13,16 @@ returns g c =
     let shows = g.K.Written.shows in
     let v = c.args.campaign.now in
     let acts = act_lines shows (vec_items v.acts) in
-    let body = c.in-ok-push-acts.ensures.bytes ∙ ap (λ xs. string_bytes c.push-values.new.text ++ act_lines shows xs) c.deref-2.ensures.value
-    ∙ c.in-ok-push-values.ensures.bytes acts ∙ (λ i. c.new-body.ensures.bytes i ++ value_lines shows (c.deref.ensures.value i) acts) in
-    let kind = c.kind-line-kind.ensures ∙ ap line_of_kind c.kind.ensures in
+    let body = c.in_ok-push_acts.ensures.bytes ∙ ap (λ xs. string_bytes c.push_values.new.text ++ act_lines shows xs) c.deref-2.ensures.value
+    ∙ c.in_ok-push_values.ensures.bytes acts ∙ (λ i. c.new-body.ensures.bytes i ++ value_lines shows (c.deref.ensures.value i) acts) in
+    let kind = c.kind_line-kind.ensures ∙ ap line_of_kind c.kind.ensures in
     let count = c.len-count.ensures ∙ v.values.ok.0 in
-    let rest = c.in-ok-rest.ensures.ok ∙ (λ i. c.carriage-line-carriage.ensures i ++ (codes "\n" ++ (kind i ++ (codes "\nvalues=" ++ (decimal (count i) ++ (codes "\n" ++ body i)))))) in
+    let rest = c.in_ok-rest.ensures.ok ∙ (λ i. c.carriage_line-carriage.ensures i ++ (codes "\n" ++ (kind i ++ (codes "\nvalues=" ++ (decimal (count i) ++ (codes "\n" ++ body i)))))) in
     let text = IfOk-weaker c.format-2.result _ _
-    (λ s e. e ∙ (λ i. codes "bench=1\nn=" ++ (decimal (c.n-n.ensures i) ++ (codes "\nt=" ++ (decimal (c.t-t.ensures i) ++ (codes "\nmarks=" ++ (c.in-ok-marks.ensures i ++ (codes "\n" ++ rest i))))))))
+    (λ s e. e ∙ (λ i. codes "bench=1\nn=" ++ (decimal (c.n-n.ensures i) ++ (codes "\nt=" ++ (decimal (c.t-t.ensures i) ++ (codes "\nmarks=" ++ (c.in_ok-marks.ensures i ++ (codes "\n" ++ rest i))))))))
     c.format-2.ensures.ok in
-    let values_fit = subst (All g.K.Written.fits) c.deref.ensures.value c.in-ok-push-values.ensures.fit in
-    let acts_fit = subst (All (ActFits g.K.Written.fits)) c.deref-2.ensures.value c.in-ok-push-acts.ensures.fit in
+    let values_fit = subst (All g.K.Written.fits) c.deref.ensures.value c.in_ok-push_values.ensures.fit in
+    let acts_fit = subst (All (ActFits g.K.Written.fits)) c.deref-2.ensures.value c.in_ok-push_acts.ensures.fit in
     record {
       text = text;
       back = λ h. IfOk-weaker c.format-2.result _ _

@@ -4,11 +4,11 @@ use Rattle.seal.specs.Kept.{fresh_sound}
 use Rattle.seal.proofs.Views.{start_view}
 use Rattle.seal.proofs.sealing.calls.SealCarriage.start.Goals as goal
 
-pub invariant-of-self : goal.invariant-of-self
-invariant-of-self c =
+pub invariant_of-self : goal.invariant_of-self
+invariant_of-self c =
     let s = c.args.self.now in
-    let view = start_view s.group s.len s.phase s.cells c.blank-cells-self.result c.blank-cells-self.ensures.0 in
+    let view = start_view s.group s.len s.phase s.cells c.blank_cells-self.result c.blank_cells-self.ensures.0 in
     (s.some, (s.few, (omega arith, (omega arith, (∣ subst Sound (sym view) (fresh_sound s.group s.len) ∣₁, tt)))))
 
 pub returns : goal.returns
-returns c = let s = c.args.self.now in start_view s.group s.len s.phase s.cells c.blank-cells-self.result c.blank-cells-self.ensures.0
+returns c = let s = c.args.self.now in start_view s.group s.len s.phase s.cells c.blank_cells-self.result c.blank_cells-self.ensures.0
