@@ -8,7 +8,7 @@ use Rattle.lists.proofs.check_list.Goals as goal
 
 pub returns-in_err-check_length : goal.returns-in_err-check_length
 returns-in_err-check_length g c =
-    let p = err_from_is_err_and c.from-residual.result c.from-residual.ensures.1 in
+    let p = err_from_is_err_and c.from_residual.result c.from_residual.ensures.1 in
     rw (p.1, p.2) (record { refusal = ap (λ o. option_or o (cond (distinct g.K.Kind.same c.args.values.now) None (Some Repeated))) c.in_err-check_length.ensures; apart = tt })
 
 pub returns-then-not-all_distinct : goal.returns-then-not-all_distinct

@@ -13,7 +13,7 @@ returns-in_err-before g c =
     let q = c.args.q in
     let x = c.args.x in
     let cause = ap (λ o. option_or o (turn_fault first)) (read_cause first q x _ (sym c.in_err-before.was ∙ c.held.ensures)) in
-    rw (handed_on c.from-residual.result _ c.from-residual.ensures.1)
+    rw (handed_on c.from_residual.result _ c.from_residual.ensures.1)
     (record { refusal = early first q c.args.r x _ cause; does = left first q x _ _ _ cause refl; holds = tt })
 
 pub returns-in_err-turn : goal.returns-in_err-turn
@@ -24,7 +24,7 @@ returns-in_err-turn g c =
     let read = ap (λ o. option_or o (turn_fault first)) (read_cause first q x _ (sym c.in_ok-before.was ∙ c.held.ensures)) in
     let refused = c.in_err-turn.ensures in
     let cause = refused.refusal ∙ read in
-    rw (handed_on c.from-residual-in_err-turn.result _ c.from-residual-in_err-turn.ensures.1)
+    rw (handed_on c.from_residual-in_err-turn.result _ c.from_residual-in_err-turn.ensures.1)
     (record { refusal = early first q c.args.r x _ cause; does = left first q x _ _ _ cause refused.does; holds = tt })
 
 pub returns-in_err-after : goal.returns-in_err-after
@@ -40,7 +40,7 @@ returns-in_err-after g c =
     let clear : None ≡ before_turn first q x = went.refusal ∙ read in
     let turned = g.met.C.Carriage.turns_on _ _ went.does in
     let cause = read_cause second r x _ (sym c.in_err-after.was ∙ c.held-2.ensures) ∙ same_cause first second r x turned in
-    rw (handed_on c.from-residual-in_err-after.result _ c.from-residual-in_err-after.ensures.1)
+    rw (handed_on c.from_residual-in_err-after.result _ c.from_residual-in_err-after.ensures.1)
     (record { refusal = cause ∙ late first q r x clear; does = taken first q x _ _ clear went.does; holds = tt })
 
 pub returns-then-not-before : goal.returns-then-not-before

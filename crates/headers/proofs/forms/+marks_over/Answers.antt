@@ -22,11 +22,11 @@ marks_over-requires t c = let l = cut_shorter c.args.rest.now _ c.in-Some.ensure
 pub marks_over-requires-in-Err : goal.marks_over-requires-in-Err
 marks_over-requires-in-Err t c = let l = cut_shorter c.args.rest.now _ c.in-Some.ensures in search rules
 
-pub returns-in_err-marks_over : goal.returns-in_err-marks_over
-returns-in_err-marks_over t c = rw (pieces_cut c.args.rest.now _ c.in-Some.ensures) (search rules)
+pub returns-in_err-marks_over-in-Err : goal.returns-in_err-marks_over-in-Err
+returns-in_err-marks_over-in-Err t c = rw (pieces_cut c.args.rest.now _ c.in-Some.ensures) (search rules)
 
 pub returns-in-Ok : goal.returns-in-Ok
 returns-in-Ok t c = rw (pieces_cut c.args.rest.now _ c.in-Some.ensures) (search rules)
 
-pub returns-in_ok-marks_over : goal.returns-in_ok-marks_over
-returns-in_ok-marks_over t c = rw (pieces_cut c.args.rest.now _ c.in-Some.ensures) (search rules)
+pub returns-in_ok-marks_over-in-Err : goal.returns-in_ok-marks_over-in-Err
+returns-in_ok-marks_over-in-Err t c = rw (pieces_cut c.args.rest.now _ c.in-Some.ensures) (search rules)

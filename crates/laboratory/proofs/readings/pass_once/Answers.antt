@@ -24,7 +24,7 @@ returns-in_err-verdict g c =
     let rules = rules_of g.K.Kind.same g.K.Kind.charge c.args.list.now in
     let played = c.in_ok-play.ensures in
     let asked = verdict_asked g.C.Carriage rules played.played c.args.q in
-    rw (handed c.from-residual-in_err-verdict.result _ c.from-residual-in_err-verdict.ensures.1)
+    rw (handed c.from_residual-in_err-verdict.result _ c.from_residual-in_err-verdict.ensures.1)
     (record { refusal = hit _ (option_map Value (block_fault c.args.block)) _ (fault_of_err _ _ _ c.in_err-verdict.ensures.is ∙ asked) ∙ past _ _ played.refusal; passed = tt })
 
 pub returns-in_err-tally : goal.returns-in_err-tally
@@ -33,7 +33,7 @@ returns-in_err-tally g c =
     let played = c.in_ok-play.ensures in
     let asked = fault_of_ok _ _ _ c.in_ok-verdict.ensures.is ∙ verdict_asked g.C.Carriage rules played.played c.args.q in
     let reader = closed_reader g.C.Carriage rules played.played (sym played.refusal) (c.closed-shot.result + 1) (ap (λ n. n + 1) c.closed-shot.ensures) (view_of c.close.new.self) c.in-Ok.ensures.does c.args.q in
-    rw (handed c.from-residual-in_err-tally.result _ c.from-residual-in_err-tally.ensures.1)
+    rw (handed c.from_residual-in_err-tally.result _ c.from_residual-in_err-tally.ensures.1)
     (record { refusal = fault_of_err _ _ _ c.in_err-tally.ensures ∙ first_alone _ _ (reader ∙ sym asked) ∙ past _ _ asked ∙ past _ _ played.refusal; passed = tt })
 
 pub returns : goal.returns

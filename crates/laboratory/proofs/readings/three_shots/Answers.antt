@@ -30,7 +30,7 @@ pub returns-in_err-first : goal.returns-in_err-first
 returns-in_err-first g c =
     let rules = rules_of g.K.Kind.same g.K.Kind.charge c.args.list.now in
     let open-bench = c.in-Ok.ensures in
-    rw (handed c.from-residual.result _ c.from-residual.ensures.1)
+    rw (handed c.from_residual.result _ c.from_residual.ensures.1)
     (record {
       refusal = c.in_err-first.ensures.refusal ∙ shot_first g.C.Carriage rules c.args.carriage (view_of c.in-Ok.bench) c.args.order.now.sender (option_map (λ x. x.now) c.args.order.now.value) (λ m. read_fault m c.args.q c.args.block) open-bench.view open-bench.refusal;
       retires = tt;

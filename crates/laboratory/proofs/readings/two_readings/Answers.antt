@@ -28,7 +28,7 @@ pub returns-in_err-play : goal.returns-in_err-play
 returns-in_err-play g c =
     let rules = rules_of g.K.Kind.same g.K.Kind.charge c.args.list.now in
     let open-bench = c.in-Ok.ensures in
-    rw (handed c.from-residual.result _ c.from-residual.ensures.1)
+    rw (handed c.from_residual.result _ c.from_residual.ensures.1)
     (record {
       refusal = hit _ _ _ c.in_err-play.ensures.refusal ∙ shot_first g.C.Carriage rules c.args.carriage (view_of c.in-Ok.bench) c.args.order.now.sender (option_map (λ x. x.now) c.args.order.now.value) (λ m. first (reader_at m c.args.q) (read_fault m c.args.r c.args.block)) open-bench.view open-bench.refusal;
       same = tt;
@@ -40,7 +40,7 @@ returns-in_err-first g c =
     let open-bench = c.in-Ok.ensures in
     let played = c.in_ok-play.ensures in
     let q-asked = verdict_asked g.C.Carriage rules played.played c.args.q in
-    rw (handed c.from-residual-in_err-first.result _ c.from-residual-in_err-first.ensures.1)
+    rw (handed c.from_residual-in_err-first.result _ c.from_residual-in_err-first.ensures.1)
     (record {
       refusal = hit _ _ _ (fault_of_err _ _ _ c.in_err-first.ensures.is ∙ q-asked) ∙ past _ _ played.refusal ∙ shot_first g.C.Carriage rules c.args.carriage (view_of c.in-Ok.bench) c.args.order.now.sender (option_map (λ x. x.now) c.args.order.now.value) (λ m. first (reader_at m c.args.q) (read_fault m c.args.r c.args.block)) open-bench.view open-bench.refusal;
       same = tt;
@@ -53,7 +53,7 @@ returns-in_err-second g c =
     let played = c.in_ok-play.ensures in
     let q-fine = fault_of_ok _ _ _ c.in_ok-first.ensures.is ∙ verdict_asked g.C.Carriage rules played.played c.args.q in
     let r-asked = verdict_asked g.C.Carriage rules played.played c.args.r in
-    rw (handed c.from-residual-in_err-second.result _ c.from-residual-in_err-second.ensures.1)
+    rw (handed c.from_residual-in_err-second.result _ c.from_residual-in_err-second.ensures.1)
     (record {
       refusal = hit _ _ _ (fault_of_err _ _ _ c.in_err-second.ensures.is ∙ r-asked) ∙ past _ _ q-fine ∙ past _ _ played.refusal ∙ shot_first g.C.Carriage rules c.args.carriage (view_of c.in-Ok.bench) c.args.order.now.sender (option_map (λ x. x.now) c.args.order.now.value) (λ m. first (reader_at m c.args.q) (read_fault m c.args.r c.args.block)) open-bench.view open-bench.refusal;
       same = tt;
@@ -68,7 +68,7 @@ returns-in_err-first_tally g c =
     let r-fine = fault_of_ok _ _ _ c.in_ok-second.ensures.is ∙ verdict_asked g.C.Carriage rules played.played c.args.r in
     let one : 1 ≡ (view_of c.play.new.bench).closed + 1 = ap (λ n. n + 1) (sym (played.played.closed ∙ ap (λ v. v.closed) open-bench.view)) in
     let reader = closed_reader g.C.Carriage rules played.played (sym played.refusal) 1 one (view_of c.close.new.self) c.in-Ok-close.ensures.does c.args.q in
-    rw (handed c.from-residual-in_err-first_tally.result _ c.from-residual-in_err-first_tally.ensures.1)
+    rw (handed c.from_residual-in_err-first_tally.result _ c.from_residual-in_err-first_tally.ensures.1)
     (record {
       refusal = fault_of_err _ _ _ c.in_err-first_tally.ensures ∙ first_alone _ _ (reader ∙ sym q-fine) ∙ past _ _ r-fine ∙ past _ _ q-fine ∙ past _ _ played.refusal ∙ shot_first g.C.Carriage rules c.args.carriage (view_of c.in-Ok.bench) c.args.order.now.sender (option_map (λ x. x.now) c.args.order.now.value) (λ m. first (reader_at m c.args.q) (read_fault m c.args.r c.args.block)) open-bench.view open-bench.refusal;
       same = tt;
@@ -83,7 +83,7 @@ returns-in_err-second_tally g c =
     let r-fine = fault_of_ok _ _ _ c.in_ok-second.ensures.is ∙ verdict_asked g.C.Carriage rules played.played c.args.r in
     let one : 1 ≡ (view_of c.play.new.bench).closed + 1 = ap (λ n. n + 1) (sym (played.played.closed ∙ ap (λ v. v.closed) open-bench.view)) in
     let reader = closed_reader g.C.Carriage rules played.played (sym played.refusal) 1 one (view_of c.close.new.self) c.in-Ok-close.ensures.does c.args.r in
-    rw (handed c.from-residual-in_err-second_tally.result _ c.from-residual-in_err-second_tally.ensures.1)
+    rw (handed c.from_residual-in_err-second_tally.result _ c.from_residual-in_err-second_tally.ensures.1)
     (record {
       refusal = fault_of_err _ _ _ c.in_err-second_tally.ensures ∙ first_alone _ _ (reader ∙ sym r-fine) ∙ past _ _ r-fine ∙ past _ _ q-fine ∙ past _ _ played.refusal ∙ shot_first g.C.Carriage rules c.args.carriage (view_of c.in-Ok.bench) c.args.order.now.sender (option_map (λ x. x.now) c.args.order.now.value) (λ m. first (reader_at m c.args.q) (read_fault m c.args.r c.args.block)) open-bench.view open-bench.refusal;
       same = tt;

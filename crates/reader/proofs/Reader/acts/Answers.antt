@@ -37,7 +37,7 @@ returns-in_err-a g c =
     let all = length (left c.args.self.now) in
     let got = vec_len c.loop-self.acts in
     let some = eqb-false _ 0 (sym c.loop-self-test.ensures) in
-    exit_by c.from-residual.result _ _ _ c.from-residual.ensures.1
+    exit_by c.from_residual.result _ _ _ c.from_residual.ensures.1
     (c.loop-self.invariant.1 ∙ acts_stop g.K.Written.reads (all - got) (vec_items c.loop-self.acts) c.loop-self.self c.act.new.self _ (omega (arith, c.loop-self.invariant.0, some)) (sym c.loop-self-test.ensures) c.in_err-a.ensures.is)
 
 pub returns : goal.returns

@@ -15,7 +15,7 @@ returns-in_err-group c =
     let read : (Ok c.in_ok-table.table, after) ≡ taken marks_reads r = sym c.in_ok-table.ensures.cases ∙ (λ i. taken marks_reads (at r.text (c.before-guard.ensures.1 i) r.line)) in
     let refused = then_ok (grouped c.args.n c.args.t r) read ∙ group_refused c.args.n c.args.t r _ after _ c.marks_of.ensures c.new.result c.new.ensures.refusal _ c.in_err-group.ensures in
     let put_back : c.drop-guard-in_err-group.new.self.0 ≡ r.place = c.drop-guard-in_err-group.ensures ∙ cond-false _ _ _ (c.read.ensures.kept.1 ∙ c.before-guard.ensures.3) ∙ c.read.ensures.kept.0 ∙ c.before-guard.ensures.2 in
-    exit_by c.from-residual-in_err-group.result _ _ _ c.from-residual-in_err-group.ensures.1 (refused ∙ (λ i. (Err (GroupAt c.in_err-group.field-0.0), at r.text (sym put_back i) r.line)))
+    exit_by c.from_residual-in_err-group.result _ _ _ c.from_residual-in_err-group.ensures.1 (refused ∙ (λ i. (Err (GroupAt c.in_err-group.field-0.0), at r.text (sym put_back i) r.line)))
 
 pub returns : goal.returns
 returns c =

@@ -6,14 +6,14 @@ use Rattle.reader.proofs.Reader.header.Goals as goal
 
 pub returns-in_err-t : goal.returns-in_err-t
 returns-in_err-t c =
-    exit_by c.from-residual-in_err-t.result _ _ _ c.from-residual-in_err-t.ensures.1
+    exit_by c.from_residual-in_err-t.result _ _ _ c.from_residual-in_err-t.ensures.1
     (then_ok (λ _. from_n) c.in_ok-take.ensures
     ∙ then_ok from_t c.in_ok-n.ensures
     ∙ then_err (from_marks c.in_ok-n.n) c.in_err-t.ensures)
 
 pub returns-in_err-group : goal.returns-in_err-group
 returns-in_err-group c =
-    exit_by c.from-residual-in_err-group.result _ _ _ c.from-residual-in_err-group.ensures.1
+    exit_by c.from_residual-in_err-group.result _ _ _ c.from_residual-in_err-group.ensures.1
     (then_ok (λ _. from_n) c.in_ok-take.ensures
     ∙ then_ok from_t c.in_ok-n.ensures
     ∙ then_ok (from_marks c.in_ok-n.n) c.in_ok-t.ensures
@@ -21,7 +21,7 @@ returns-in_err-group c =
 
 pub returns-in_err-carriage : goal.returns-in_err-carriage
 returns-in_err-carriage c =
-    exit_by c.from-residual-in_err-carriage.result _ _ _ c.from-residual-in_err-carriage.ensures.1
+    exit_by c.from_residual-in_err-carriage.result _ _ _ c.from_residual-in_err-carriage.ensures.1
     (then_ok (λ _. from_n) c.in_ok-take.ensures
     ∙ then_ok from_t c.in_ok-n.ensures
     ∙ then_ok (from_marks c.in_ok-n.n) c.in_ok-t.ensures
@@ -30,7 +30,7 @@ returns-in_err-carriage c =
 
 pub returns-in_err-kind : goal.returns-in_err-kind
 returns-in_err-kind c =
-    exit_by c.from-residual-in_err-kind.result _ _ _ c.from-residual-in_err-kind.ensures.1
+    exit_by c.from_residual-in_err-kind.result _ _ _ c.from_residual-in_err-kind.ensures.1
     (then_ok (λ _. from_n) c.in_ok-take.ensures
     ∙ then_ok from_t c.in_ok-n.ensures
     ∙ then_ok (from_marks c.in_ok-n.n) c.in_ok-t.ensures
@@ -40,7 +40,7 @@ returns-in_err-kind c =
 
 pub returns-in_err-count : goal.returns-in_err-count
 returns-in_err-count c =
-    exit_by c.from-residual-in_err-count.result _ _ _ c.from-residual-in_err-count.ensures.1
+    exit_by c.from_residual-in_err-count.result _ _ _ c.from_residual-in_err-count.ensures.1
     (then_ok (λ _. from_n) c.in_ok-take.ensures
     ∙ then_ok from_t c.in_ok-n.ensures
     ∙ then_ok (from_marks c.in_ok-n.n) c.in_ok-t.ensures

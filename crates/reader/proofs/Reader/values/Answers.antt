@@ -17,7 +17,7 @@ loop-i-preserved g c =
 
 pub returns-in_err-v : goal.returns-in_err-v
 returns-in_err-v g c =
-    exit_by c.from-residual.result _ _ _ c.from-residual.ensures.1
+    exit_by c.from_residual.result _ _ _ c.from_residual.ensures.1
     (c.loop-i.invariant ∙ values_stop g.K.Written.reads g.K.Kind.same (c.args.count + 1 - c.loop-i.-i) (vec_items c.loop-i.values) c.loop-i.self c.take.new.self _ (omega arith) c.in_err-v.ensures)
 
 pub returns : goal.returns

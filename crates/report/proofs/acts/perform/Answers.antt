@@ -12,7 +12,7 @@ returns-in_err-inject g c =
     let rules = rules_of g.K.Kind.same g.K.Kind.charge c.args.list.now in
     let call = injection_call c.args.act.now c.in-Inject.injection c.frame.result c.in-Inject.is c.frame.ensures in
     let met = c.in_err-inject.ensures in
-    rw (handed c.from-residual-in_err-inject.result _ c.from-residual-in_err-inject.ensures.1)
+    rw (handed c.from_residual-in_err-inject.result _ c.from_residual-in_err-inject.ensures.1)
     (record { refusal = met.refusal ∙ ap (fault_of g.C.Carriage rules (view_of c.args.bench.now)) call; does = met.does })
 
 pub returns-in_ok-inject : goal.returns-in_ok-inject

@@ -9,16 +9,16 @@ use Rattle.bench.proofs.state.Bench.check_begin.Goals as goal
 
 pub returns-in_err-check_moment : goal.returns-in_err-check_moment
 returns-in_err-check_moment g c =
-    rw (handed c.from-residual.result _ c.from-residual.ensures.1) (record { refusal = hit _ _ _ c.in_err-check_moment.ensures; place = tt })
+    rw (handed c.from_residual.result _ c.from_residual.ensures.1) (record { refusal = hit _ _ _ c.in_err-check_moment.ensures; place = tt })
 
 pub returns-in_err-check_length : goal.returns-in_err-check_length
 returns-in_err-check_length g c =
-    rw (handed c.from-residual-in_err-check_length.result _ c.from-residual-in_err-check_length.ensures.1)
+    rw (handed c.from_residual-in_err-check_length.result _ c.from_residual-in_err-check_length.ensures.1)
     (record { refusal = hit _ _ _ (ap (option_map List) c.in_err-check_length.ensures) ∙ past _ _ c.in_ok-check_moment.ensures; place = tt })
 
 pub returns-in_err-check_shots : goal.returns-in_err-check_shots
 returns-in_err-check_shots g c =
-    rw (handed c.from-residual-in_err-check_shots.result _ c.from-residual-in_err-check_shots.ensures.1)
+    rw (handed c.from_residual-in_err-check_shots.result _ c.from_residual-in_err-check_shots.ensures.1)
     (record {
       refusal = hit _ _ _ c.in_err-check_shots.ensures ∙ past _ _ (ap (option_map List) c.in_ok-check_length.ensures) ∙ past _ _ c.in_ok-check_moment.ensures;
       place = tt;
@@ -27,7 +27,7 @@ returns-in_err-check_shots g c =
 pub returns-in_err-check_sender : goal.returns-in_err-check_sender
 returns-in_err-check_sender g c =
     let asked = ap (λ k. sender_fault k c.args.sender c.is_some.result) c.group.ensures ∙ ap (sender_fault (g.C.Carriage.model c.args.self.now.carriage).group c.args.sender) (c.is_some.ensures ∙ some_mapped (λ x. x.now) c.args.value) in
-    rw (handed c.from-residual-in_err-check_sender.result _ c.from-residual-in_err-check_sender.ensures.1)
+    rw (handed c.from_residual-in_err-check_sender.result _ c.from_residual-in_err-check_sender.ensures.1)
     (record {
       refusal = hit _ _ _ (c.in_err-check_sender.ensures ∙ asked) ∙ past _ _ c.in_ok-check_shots.ensures ∙ past _ _ (ap (option_map List) c.in_ok-check_length.ensures) ∙ past _ _ c.in_ok-check_moment.ensures;
       place = tt;

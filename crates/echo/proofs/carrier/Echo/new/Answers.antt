@@ -10,7 +10,13 @@ pub invariant_of-result : goal.invariant_of-result
 invariant_of-result c =
     let long = length_allowed c.args.len (sym c.in_ok-check_length.ensures) in
     let view = start_view c.args.group c.args.len 1 c.blank_cells.result c.blank_cells.result c.blank_rows.result c.blank_rows.result c.blank_cells.ensures.0 c.blank_rows.ensures.0 in
-    (long.0, (long.1, (omega arith, (omega arith, (∣ subst Consistent (sym view) (fresh_consistent c.args.group c.args.len) ∣₁, tt)))))
+    record {
+      some = long.0;
+      few = long.1;
+      begun = omega arith;
+      ends = omega arith;
+      consistent = ∣ subst Consistent (sym view) (fresh_consistent c.args.group c.args.len) ∣₁;
+    }
 
 pub returns : goal.returns
 returns c =

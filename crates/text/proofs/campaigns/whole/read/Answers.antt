@@ -12,9 +12,9 @@ returns-in_err-values g c =
     let hk = same_kind _ _ c.if-ne.ensures ∙ c.kind.ensures in
     record {
       is =
-          exit_by c.from-residual-in_err-values.result _ _ _ c.from-residual-in_err-values.ensures.1
+          exit_by c.from_residual-in_err-values.result _ _ _ c.from_residual-in_err-values.ensures.1
           (faulted _ _ _ (λ f e. values_refused g.K.Written.reads g.K.Kind.same g.K.Written.kind (start c.args.text) _ _ hd hk f _ e) c.in_err-values.ensures);
-      text = exit_made _ c.from-residual-in_err-values.result _ c.from-residual-in_err-values.ensures.1;
+      text = exit_made _ c.from_residual-in_err-values.result _ c.from_residual-in_err-values.ensures.1;
     }
 
 pub returns-in_err-acts : goal.returns-in_err-acts
@@ -23,9 +23,9 @@ returns-in_err-acts g c =
     let hk = same_kind _ _ c.if-ne.ensures ∙ c.kind.ensures in
     record {
       is =
-          exit_by c.from-residual-in_err-acts.result _ _ _ c.from-residual-in_err-acts.ensures.1
+          exit_by c.from_residual-in_err-acts.result _ _ _ c.from_residual-in_err-acts.ensures.1
           (faulted _ _ _ (λ f e. acts_refused g.K.Written.reads g.K.Kind.same g.K.Written.kind (start c.args.text) _ _ hd hk _ _ c.in_ok-values.ensures f _ e) c.in_err-acts.ensures);
-      text = exit_made _ c.from-residual-in_err-acts.result _ c.from-residual-in_err-acts.ensures.1;
+      text = exit_made _ c.from_residual-in_err-acts.result _ c.from_residual-in_err-acts.ensures.1;
     }
 
 pub returns : goal.returns

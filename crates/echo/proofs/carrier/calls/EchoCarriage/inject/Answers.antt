@@ -30,7 +30,13 @@ invariant_of-self c =
     let s = c.args.self.now in
     let f = c.args.f in
     let allowed = inject_allowed (is_echo_letter f) (any_seal f) (echo_model s) f (sym c.in_ok-check_frame.ensures) in
-    (s.some, (s.few, (s.begun, (s.ends, (∥∥₁_map s.consistent (λ h. subst Consistent (sym (view c)) (inject_consistent (state_of s) h f allowed.0)), tt)))))
+    record {
+      some = s.some;
+      few = s.few;
+      begun = s.begun;
+      ends = s.ends;
+      consistent = ∥∥₁_map s.consistent (λ h. subst Consistent (sym (view c)) (inject_consistent (state_of s) h f allowed.0));
+    }
 
 pub returns : goal.returns
 returns c =

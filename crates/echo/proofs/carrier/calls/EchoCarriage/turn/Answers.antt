@@ -12,7 +12,13 @@ pub invariant_of-self : goal.invariant_of-self
 invariant_of-self c =
     let s = c.args.self.now in
     let view = turn_view s.group s.len s.few s.phase s.cells c.turn_cells.new.cells s.echoes c.turn_cells.ensures in
-    (s.some, (s.few, (omega arith, (omega arith, (∥∥₁_map s.consistent (λ h. subst Consistent (sym view) (turn_consistent (state_of s) h)), tt)))))
+    record {
+      some = s.some;
+      few = s.few;
+      begun = omega arith;
+      ends = omega arith;
+      consistent = ∥∥₁_map s.consistent (λ h. subst Consistent (sym view) (turn_consistent (state_of s) h));
+    }
 
 pub returns : goal.returns
 returns c =

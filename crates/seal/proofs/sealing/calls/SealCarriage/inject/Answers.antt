@@ -15,7 +15,13 @@ invariant_of-self c =
     let long : length s.cells ≡ 384 = omega arith in
     let allowed = inject_allowed (is_seal f) (known_seal (state_of s) f) (seal_model s) f (sym c.in_ok-check_frame.ensures) in
     let view = inject_call s.group s.len s.few s.phase s.cells long f c.slot-slot.result c.with-cell.result allowed.3 c.slot-slot.ensures (correct_below s.group f.to allowed.1) c.with-cell.ensures in
-    (s.some, (s.few, (s.begun, (s.ends, (∥∥₁_map s.sound (λ h. subst Sound (sym view) (inject_sound (state_of s) h f (known_offered (state_of s) f allowed.4))), tt)))))
+    record {
+      some = s.some;
+      few = s.few;
+      begun = s.begun;
+      ends = s.ends;
+      sound = ∥∥₁_map s.sound (λ h. subst Sound (sym view) (inject_sound (state_of s) h f (known_offered (state_of s) f allowed.4)));
+    }
 
 pub returns : goal.returns
 returns c =

@@ -16,7 +16,13 @@ invariant_of-self c =
     let long : length s.cells ≡ 384 = omega arith in
     let allowed = offer_allowed (seal_model s) x (sym c.in_ok-check_offer.ensures) in
     let view = offer_call s.group s.len s.few s.phase s.cells long x c.slot-slot.result allowed.0 c.slot-slot.ensures in
-    (s.some, (s.few, (s.begun, (s.ends, (∥∥₁_map s.sound (λ h. subst Sound (sym view) (offer_sound (state_of s) h x allowed.0 allowed.1 allowed.2)), tt)))))
+    record {
+      some = s.some;
+      few = s.few;
+      begun = s.begun;
+      ends = s.ends;
+      sound = ∥∥₁_map s.sound (λ h. subst Sound (sym view) (offer_sound (state_of s) h x allowed.0 allowed.1 allowed.2));
+    }
 
 pub returns : goal.returns
 returns c =

@@ -12,7 +12,13 @@ pub invariant_of-self : goal.invariant_of-self
 invariant_of-self c =
     let s = c.args.self.now in
     let view = turn_view s.group s.len s.phase s.cells c.turn_cells.new.cells c.correct_ones-correct.result c.correct_ones-correct.ensures s.few c.turn_cells.ensures in
-    (s.some, (s.few, (omega arith, (omega arith, (∥∥₁_map s.sound (λ h. subst Sound (sym view) (turn_sound (state_of s) h)), tt)))))
+    record {
+      some = s.some;
+      few = s.few;
+      begun = omega arith;
+      ends = omega arith;
+      sound = ∥∥₁_map s.sound (λ h. subst Sound (sym view) (turn_sound (state_of s) h));
+    }
 
 pub returns : goal.returns
 returns c =
