@@ -1,11 +1,10 @@
 -- The line of an act is read back as that act, and what is read as an act is its line. Assumes nothing.
-use Rattle.std.proofs.Common.{◌≡◌, ℕ, ◌+◌, ◌<◌, ◌≤◌, Bool, true, false, cond, eqb, ◌⊎◌, List, [], ◌∷◌, ◌++◌, length, Some, None, Ok, Err, codes, decimal, Option, Result, sym, refl, ap, ◌∙◌, subst, inl, inr, ⊎_elim, arith, length-append}
-use Rattle.std.specs.Int.{IsInRange}
+use Rattle.std.proofs.Common.{◌≡◌, ℕ, ◌<◌, ◌≤◌, Bool, true, false, cond, eqb, List, [], ◌∷◌, ◌++◌, length, Some, None, Ok, Err, codes, decimal, Option, Result, sym, refl, ap, ◌∙◌, subst, ⊎_elim, arith, length-append}
 use Rattle.std.specs.Str.{bytes_eq}
 use Rattle.std.proofs.lemmas.Slice.Eq.{bytes_eq-Decides}
-use Rattle.std.proofs.lemmas.Bool.{cond-true, cond-false, eqb-true}
+use Rattle.std.proofs.lemmas.Bool.{cond-false, eqb-true}
 use Rattle.faults.specs.declared.causes.ValueFault.{ValueFault}
-use Rattle.cuts.specs.Cuts.{bind, decode, field_number, field_letter, Lacks, keyed, there}
+use Rattle.cuts.specs.Cuts.{bind, decode, field_number, field_letter, Lacks, keyed}
 use Rattle.acts.specs.Acts.{letter_byte, letter_by, inject_line, inject_reads, InjectFits, value_field, line_of_act, begins_by, begin_reads, act_reads, ValueFits, ActFits}
 use Rattle.acts.specs.declared.Act.{Act}
 use Rattle.acts.specs.declared.Act.TheVariants.{Begin, Inject, Turn, Close}

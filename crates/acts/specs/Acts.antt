@@ -2,7 +2,6 @@
 --   begin=SENDER,VALUE or begin=SENDER,-   inject=FROM,TO,LETTER,ORIGIN,ROUND,PLACE   turn=PHASE   close=SHOT
 -- with the letter i, e or s. A line is read as nothing where it has none of these forms. Assumes nothing.
 use Rattle.std.specs.Prelude.{ℕ, ◌<◌, cond, List, [], ◌∷◌, ◌++◌, Some, None, Ok, Err, codes, decimal, Option, Result, ◌==◌}
-use Rattle.std.specs.Option.{option_map}
 use Rattle.std.specs.Str.{bytes_eq}
 use Rattle.faults.specs.declared.causes.ValueFault.{ValueFault}
 use Rattle.cuts.specs.Cuts.{bind, decode, field_number, field_letter, keyed, there}

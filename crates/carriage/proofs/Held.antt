@@ -1,8 +1,7 @@
 -- What an answer of `held` tells of the model. Assumes nothing.
-use Rattle.std.proofs.Common.{◌≡◌, ℕ, Bool, true, false, cond, Ok, Err, Result, sym, refl, ap, ◌∙◌, arith}
+use Rattle.std.proofs.Common.{◌≡◌, ℕ, Bool, true, false, cond, Ok, Err, refl, arith}
 use Rattle.carriage.specs.Model.{Model, is_correct, knows, held_answer}
 use Rattle.carriage.specs.declared.frames.Triple.{Triple}
-use Rattle.faults.specs.declared.causes.CarriageFault.{CarriageFault}
 use Rattle.faults.specs.declared.causes.CarriageFault.TheVariants.{NotCorrect, Range}
 
 pub held_tells : (m : Model) (q : ℕ) (x : Triple) (b : Bool) → Ok b ≡ held_answer m q x → (is_correct m q ≡ true) × (knows m x ≡ true) × (b ≡ m.accepted q x)

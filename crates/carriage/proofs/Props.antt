@@ -1,8 +1,7 @@
 -- The laws of a carriage can hold in one way only, so that they can be read out of a truncated invariant. Assumes nothing.
-use Rattle.std.proofs.Common.{ℕ, Bool, true}
 use mathlib.Core.Bool.{Bool-set}
 use native.Mathlib.Bridge.{le_prop}
-use Rattle.carriage.specs.Model.{Model, Lawful, is_correct, knows}
+use Rattle.carriage.specs.Model.{Model, Lawful}
 
 pub lawful_prop : (m : Model) → IsProp (Lawful m)
 lawful_prop m a b = λ i. record {

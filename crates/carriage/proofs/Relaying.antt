@@ -1,11 +1,11 @@
 -- The causes that the check of relay meets, from what its calls answered. Assumes nothing.
-use Rattle.std.proofs.Common.{◌≡◌, ℕ, Bool, true, false, cond, IsErrAnd, Some, None, Ok, Err, Option, Result, refl, ap, ◌∙◌, subst}
+use Rattle.std.proofs.Common.{◌≡◌, ℕ, Bool, true, false, cond, IsErrAnd, Some, None, Ok, Err, Result, refl, ap, ◌∙◌, subst}
 use Rattle.std.specs.Option.{option_or}
 use Rattle.std.specs.Result.{result_err}
 use Rattle.std.proofs.lemmas.Result.{err_from_is_err_and}
 use Rattle.carriage.specs.Checks.{Went, before_turn, cause_of_read, relay_fault}
 use Rattle.groups.specs.Groups.{correct}
-use Rattle.carriage.specs.Model.{Model, Turned, held_answer, read_answer, turn_fault}
+use Rattle.carriage.specs.Model.{Model, Turned, held_answer, read_answer}
 use Rattle.carriage.specs.Triples.{in_range}
 use Rattle.faults.specs.declared.causes.CarriageFault.{CarriageFault}
 use Rattle.faults.specs.declared.causes.CarriageFault.TheVariants.{NotCorrect, Range}

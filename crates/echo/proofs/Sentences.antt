@@ -1,5 +1,5 @@
 -- What the events of a run say, in sentences. Assumes nothing.
-use Rattle.std.proofs.Common.{◌≡◌, ℕ, suc, ◌+◌, ◌-◌, ◌*◌, ◌<◌, ◌≤◌, Bool, true, false, not, ◌&&◌, ◌||◌, eqb, leb, ◌⊎◌, ◌↔◌, List, [], ◌∷◌, sym, refl, ap, ◌∙◌, inl, inr, ⊎_elim, arith}
+use Rattle.std.proofs.Common.{◌≡◌, ℕ, ◌+◌, ◌-◌, ◌*◌, ◌≤◌, Bool, true, false, not, ◌&&◌, ◌||◌, eqb, leb, ◌⊎◌, List, [], ◌∷◌, inl, inr, ⊎_elim, arith}
 use Rattle.std.proofs.lemmas.Bool.{and_parts, and_from, or_cases, or_left, or_right, both_ways, eqb-true, eq-eqb, leb-true, le-leb, not-true, not_from_false, false≢true}
 use Rattle.sets.specs.Sets.{count}
 use Rattle.sets.proofs.Counts.{count_mono}
@@ -9,8 +9,7 @@ use Rattle.carriage.specs.Runs.{Event, start, offer, inject, turn, phase_after, 
 use Rattle.carriage.specs.Moments.{Since, SamePhase}
 use Rattle.groups.specs.declared.members.Group.{Group}
 use Rattle.carriage.specs.declared.frames.Triple.{Triple}
-use Rattle.carriage.specs.declared.frames.Frame.{Frame}
-use Rattle.echo.specs.Story.{init_to, echo_to, hears_init_now, joins_now, is_witness, has_heard, has_accepted, AtLeast, HearsInit, NewWitness, HearsEcho, HeardEcho, BecameWitness, HeardEnough, EchoRules}
+use Rattle.echo.specs.Story.{echo_to, hears_init_now, joins_now, is_witness, has_heard, has_accepted, AtLeast, HearsInit, HeardEcho, BecameWitness, HeardEnough, EchoRules}
 
 same_since : {before es : List Event} → SamePhase before es → Since before es
 same_since SamePhase.now = Since.now

@@ -1,8 +1,8 @@
 -- After every run the carriage's state is what the run's events say. Assumes nothing.
-use Rattle.std.proofs.Common.{◌≡◌, ℕ, suc, ◌+◌, ◌*◌, ◌<◌, ◌≤◌, Bool, true, false, not, ◌&&◌, ◌||◌, eqb, leb, ◌⊎◌, List, [], ◌∷◌, sym, refl, ap, ◌∙◌, subst, inl, inr, ⊎_elim, add-one, arith}
+use Rattle.std.proofs.Common.{◌≡◌, ℕ, suc, ◌+◌, ◌*◌, ◌≤◌, Bool, true, false, not, ◌&&◌, ◌||◌, eqb, leb, ◌⊎◌, List, [], ◌∷◌, sym, refl, ap, ◌∙◌, subst, inl, inr, ⊎_elim, add-one, arith}
 use mathlib.Core.Bool.{Bool-set}
 use mathlib.Core.Logic.{∥∥₁_elim}
-use Rattle.std.proofs.lemmas.Bool.{and_left, and_right, or_cases, cases_Bool, both_ways, ne_eqb, le-leb}
+use Rattle.std.proofs.lemmas.Bool.{and_left, or_cases, cases_Bool, both_ways, ne_eqb, le-leb}
 use Rattle.sets.specs.Sets.{count}
 use Rattle.groups.specs.Groups.{correct}
 use Rattle.carriage.specs.Triples.{in_range, same_triple}
@@ -14,8 +14,8 @@ use Rattle.carriage.proofs.Slots.{same_is}
 use Rattle.echo.specs.Consistent.{Consistent}
 use Rattle.echo.specs.Echoes.{echo_account, state_of}
 use Rattle.echo.specs.State.{State, init_letter, echo_letter, fresh_state, start_state, offer_state, inject_state, turn_state, counts_as_init, counts_as_echo}
-use Rattle.echo.specs.Steps.{becomes_witness, accepts}
-use Rattle.echo.specs.Story.{init_to, echo_to, hears_init_now, joins_now, is_witness, has_heard, has_accepted, Says, TellsTheRun}
+use Rattle.echo.specs.Steps.{accepts}
+use Rattle.echo.specs.Story.{init_to, echo_to, hears_init_now, joins_now, is_witness, has_heard, has_accepted, TellsTheRun}
 use Rattle.echo.specs.declared.carrier.Echo.{Echo}
 use Rattle.echo.proofs.Sentences.{joined_late, echo_rules}
 

@@ -1,7 +1,7 @@
 -- What the code does to the tables is what the step does to the state that they stand for. Assumes nothing.
-use Rattle.std.proofs.Common.{◌≡◌, ℕ, ◌+◌, ◌*◌, ◌/◌, ◌<◌, ◌≤◌, Bool, true, false, not, ◌&&◌, ◌||◌, eqb, List, length, get_or, set, sym, refl, ap, ◌∙◌, subst, ⊎_elim, arith, get_or-set_other, get_or-set_same}
+use Rattle.std.proofs.Common.{◌≡◌, ℕ, ◌+◌, ◌*◌, ◌/◌, ◌<◌, ◌≤◌, Bool, true, false, ◌&&◌, ◌||◌, eqb, List, length, get_or, set, sym, refl, ap, ◌∙◌, subst, arith, get_or-set_other, get_or-set_same}
 use Rattle.std.proofs.lemmas.Bool.{both_ways, eqb-true, eq-eqb, and_from, and_left, and_right}
-use Rattle.sets.specs.Sets.{has, count}
+use Rattle.sets.specs.Sets.{has}
 use Rattle.sets.specs.declared.ControllerSet.{ControllerSet}
 use Rattle.groups.specs.Groups.{correct}
 use Rattle.carriage.specs.Triples.{in_range, same_triple, slot_of}
@@ -12,8 +12,8 @@ use Rattle.carriage.proofs.Slots.{slot_small, slot_round, slot_apart, same_is}
 use Rattle.carriage.proofs.Tables.{kept, added}
 use Rattle.groups.proofs.Marked.{correct_below}
 use Rattle.echo.specs.Steps.{becomes_witness, accepts}
-use Rattle.echo.specs.State.{State, start_state, offer_state, counts_as_init, counts_as_echo, hear_frame, inject_state, turn_state}
-use Rattle.echo.specs.Cells.{Blank, CellTurned, blank, no_set, echo_row, cell_witness, cell_accepts}
+use Rattle.echo.specs.State.{start_state, offer_state, counts_as_init, counts_as_echo, hear_frame, inject_state, turn_state}
+use Rattle.echo.specs.Cells.{Blank, CellTurned, blank, no_set, echo_row}
 use Rattle.echo.specs.View.{cell_of, view_of}
 use Rattle.echo.specs.declared.cells.Cell.{Cell}
 

@@ -1,5 +1,5 @@
 -- One cell of the table: what is known of one triple, and what a turn makes of it. Assumes nothing.
-use Rattle.std.specs.Prelude.{◌≡◌, ℕ, ◌+◌, ◌*◌, Bool, true, false, ◌&&◌, ◌||◌, List, slice_index_or}
+use Rattle.std.specs.Prelude.{◌≡◌, ℕ, ◌+◌, ◌*◌, Bool, false, ◌&&◌, ◌||◌, List, slice_index_or}
 use Rattle.sets.specs.Sets.{has}
 use Rattle.sets.specs.declared.ControllerSet.{ControllerSet}
 use Rattle.groups.specs.Groups.{correct}

@@ -1,5 +1,5 @@
 -- What holds of an echo carriage at every moment. Assumes nothing.
-use Rattle.std.specs.Prelude.{◌≡◌, ℕ, ◌+◌, ◌*◌, ◌<◌, ◌≤◌, Bool, true}
+use Rattle.std.specs.Prelude.{◌≡◌, ℕ, ◌+◌, ◌*◌, ◌<◌, ◌≤◌, true}
 use Rattle.groups.specs.Groups.{correct, marked}
 use Rattle.carriage.specs.Triples.{in_range}
 use Rattle.carriage.specs.declared.frames.Triple.{Triple}

@@ -1,20 +1,19 @@
 -- Every call keeps a carriage consistent, and a consistent one keeps the laws of a carriage. Assumes nothing.
-use Rattle.std.specs.Prelude.{◌≡◌, ℕ, ◌+◌, ◌-◌, ◌*◌, ◌<◌, ◌≤◌, Bool, true, false, not, ◌&&◌, ◌||◌, ◌⊎◌, ◌==◌, nat_le, nat_lt, refl}
+use Rattle.std.specs.Prelude.{◌≡◌, ℕ, ◌+◌, ◌-◌, ◌*◌, ◌<◌, ◌≤◌, Bool, true, not, ◌&&◌, ◌⊎◌, ◌==◌, nat_le, nat_lt, refl}
 use Rattle.std.proofs.Common.{sym, ap, ◌∙◌, inl, inr, ⊎_elim, arith}
 use Rattle.std.proofs.Math.Bool.{Bool-set}
 use Rattle.std.proofs.Math.Logic.{∥∥₁_elim}
-use Rattle.std.proofs.lemmas.Bool.{and_parts, and_from, or_cases, or_left, or_right, both_ways, eqb-true, eq-eqb, leb-true, le-leb, cases_Bool, cases_lt, not-true, false≢true}
+use Rattle.std.proofs.lemmas.Bool.{and_parts, and_from, or_cases, or_left, or_right, both_ways, eqb-true, eq-eqb, leb-true, le-leb, cases_lt, not-true, false≢true}
 use Rattle.sets.specs.Sets.{count}
 use Rattle.sets.proofs.Counts.{count_mono}
 use Rattle.groups.specs.Groups.{correct, marked}
 use Rattle.carriage.specs.Triples.{in_range, same_triple}
-use Rattle.carriage.specs.Model.{Model, Lawful, Turned, end_phase}
+use Rattle.carriage.specs.Model.{Lawful, Turned, end_phase}
 use Rattle.groups.specs.declared.members.Group.{Group}
 use Rattle.carriage.specs.declared.frames.Triple.{Triple}
 use Rattle.carriage.specs.declared.frames.Frame.{Frame}
 use Rattle.carriage.proofs.Slots.{same_is}
 use Rattle.groups.proofs.Quorums.{correct_many, many_correct, one_unmarked}
-use Rattle.echo.specs.Steps.{becomes_witness, accepts}
 use Rattle.echo.specs.State.{State, model_of, fresh_state, offer_state, hear_frame, inject_state, turn_state, hears_init, heard_echo, takes_part, new_witness, new_accepted, init_letter, counts_as_init, counts_as_echo}
 use Rattle.echo.specs.Consistent.{Consistent}
 

@@ -1,5 +1,5 @@
 -- The state that a group, a list length, a phase, a table of cells and a table of injected echoes stand for. Assumes nothing.
-use Rattle.std.specs.Prelude.{ℕ, Bool, ◌&&◌, List, slice_index_or}
+use Rattle.std.specs.Prelude.{ℕ, ◌&&◌, List, slice_index_or}
 use Rattle.sets.specs.Sets.{has}
 use Rattle.sets.specs.declared.ControllerSet.{ControllerSet}
 use Rattle.groups.specs.Groups.{correct}

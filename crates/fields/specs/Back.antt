@@ -1,12 +1,12 @@
 -- Notices and pulse reports are read back as they were written, and written back as they were read. Assumes nothing.
-use Rattle.std.specs.Prelude.{◌≡◌, ℕ, ◌<◌, ◌≤◌, Bool, true, false, cond, ◌&&◌, ◌||◌, List, [], ◌∷◌, ◌++◌, length, IfOk, Some, None, Ok, Err, decimal, Option, Result, ◌==◌, nat_eq, refl}
+use Rattle.std.specs.Prelude.{◌≡◌, ℕ, ◌<◌, ◌≤◌, Bool, true, false, cond, List, ◌∷◌, ◌++◌, length, IfOk, Some, None, Ok, Err, decimal, Result, ◌==◌, nat_eq, refl}
 use Rattle.std.proofs.Common.{sym, ap, subst, ◌∙◌, ⊎_elim, arith, length-append}
 use mathlib.Core.HLevel.{is_prop→PathP}
 use Rattle.std.proofs.Math.Bool.{Bool-set}
 use Rattle.std.proofs.Math.Bridge.{le_prop}
 use Rattle.std.proofs.Math.Decide.{dec_lt, dec_le}
 use Rattle.std.specs.Result.{result_err}
-use Rattle.std.proofs.lemmas.Bool.{cond-true, cond-false, eq-eqb, ne_eqb, eqb-true, lt-ltb, le-ltb, le-leb, lt-leb, and_from, and_left, and_right, or_cases}
+use Rattle.std.proofs.lemmas.Bool.{cond-true, cond-false, ne_eqb, eqb-true, lt-ltb, le-ltb, le-leb, lt-leb, and_from, and_left, and_right, or_cases}
 use Rattle.values.specs.Letters.{letter_of, is_letter}
 use Rattle.values.specs.Ranges.{block_fault, pulse_fault}
 use Rattle.faults.specs.declared.causes.ValueFault.{ValueFault}
@@ -15,7 +15,7 @@ use Rattle.values.specs.declared.notices.Notice.{Notice}
 use Rattle.values.specs.declared.notices.Outcome.{Outcome}
 use Rattle.values.specs.declared.notices.Outcome.TheVariants.{Failed, Passed}
 use Rattle.values.specs.declared.pulses.PulseReport.{PulseReport}
-use Rattle.cuts.specs.Cuts.{bind, decode, field_number, field_letter, Lacks}
+use Rattle.cuts.specs.Cuts.{decode, field_number, field_letter, Lacks}
 use Rattle.fields.specs.Values.{notice_shows, NoticeFits, outcome_by, notice_in, notice_of, notice_reads, pulse_shows, pulse_in, pulse_of, pulse_reads}
 use Rattle.cuts.proofs.Decimal.{decode_back, decode_forth}
 use Rattle.cuts.proofs.Fields.{bind_back, bind_forth, number_field_back, number_field_forth, letter_field_back, letter_field_forth, lacks_append, lacks_decimal, length_number}

@@ -1,7 +1,7 @@
 -- How the fields of a notice and of a pulse report are written and read. A notice is its letter, block and tick; a pulse
 -- report its block and pulses; commas stand between. A number out of range is told only where the form is right.
 -- Assumes nothing.
-use Rattle.std.specs.Prelude.{◌≡◌, ℕ, ◌<◌, ◌≤◌, Bool, true, cond, List, ◌∷◌, ◌++◌, Some, None, Ok, Err, decimal, Option, Result, ◌==◌, refl}
+use Rattle.std.specs.Prelude.{◌≡◌, ℕ, ◌<◌, ◌≤◌, true, cond, List, ◌∷◌, ◌++◌, Some, None, Ok, Err, decimal, Option, Result, ◌==◌, refl}
 use Rattle.std.proofs.Math.Decide.{dec_lt, dec_le}
 use Rattle.values.specs.Letters.{letter_of, is_letter}
 use Rattle.faults.specs.declared.causes.ValueFault.{ValueFault}

@@ -1,7 +1,7 @@
 -- What the marks of a group are, and that somebody is correct. Assumes nothing.
-use Rattle.std.proofs.Common.{◌≡◌, ℕ, ◌*◌, ◌^◌, ◌<◌, ◌≤◌, Bool, true, false, not, ◌&&◌, eqb, ltb, leb, sym, refl, ap, ◌∙◌, ⊎_elim, arith}
-use Rattle.std.proofs.lemmas.Bool.{cases_lt, lt-ltb, le-ltb, ltb-true, eqb-true, leb-true, and_parts, both_ways, true≢false, not-true, not-false, cases_Bool}
-use Rattle.sets.specs.Sets.{has, bit, count, size}
+use Rattle.std.proofs.Common.{◌≡◌, ℕ, ◌^◌, ◌<◌, ◌≤◌, Bool, true, false, not, ◌&&◌, ltb, sym, refl, ap, ◌∙◌, ⊎_elim, arith}
+use Rattle.std.proofs.lemmas.Bool.{cases_lt, lt-ltb, ltb-true, eqb-true, and_parts, both_ways, not-false}
+use Rattle.sets.specs.Sets.{has, count}
 use Rattle.sets.proofs.Counts.{count_same, count_zero, count_wider, count_all, someone}
 use Rattle.sets.proofs.Masks.{bit_high}
 use Rattle.groups.specs.Groups.{marked, correct, marks_fit}

@@ -1,8 +1,8 @@
 -- How many controllers of a group must be correct among many. Assumes nothing.
-use Rattle.std.proofs.Common.{◌≡◌, ℕ, ◌+◌, ◌-◌, ◌*◌, ◌<◌, ◌≤◌, Bool, true, false, not, ◌&&◌, ltb, ◌⊎◌, sym, refl, ap, ◌∙◌, inl, inr, ⊎_elim, arith}
-use Rattle.std.proofs.lemmas.Bool.{cases_Bool, and_from, not_from_false, ltb-true, and_parts}
+use Rattle.std.proofs.Common.{◌≡◌, ℕ, ◌+◌, ◌-◌, ◌*◌, ◌<◌, ◌≤◌, Bool, true, false, ltb, ◌⊎◌, inl, inr, ⊎_elim, arith}
+use Rattle.std.proofs.lemmas.Bool.{cases_Bool, and_from, not_from_false}
 use Rattle.sets.specs.Sets.{count}
-use Rattle.sets.proofs.Counts.{count_mono, someone}
+use Rattle.sets.proofs.Counts.{someone}
 use Rattle.sets.proofs.Unions.{count_union, count_below}
 use Rattle.groups.specs.Groups.{marked, correct}
 use Rattle.groups.specs.declared.members.Group.{Group}

@@ -9,7 +9,7 @@ use Rattle.faults.specs.declared.causes.ValueFault.TheVariants.{Mark, Count}
 use Rattle.faults.specs.declared.causes.GroupFault.{GroupFault}
 use Rattle.faults.specs.declared.causes.GroupFault.TheVariants.{Size, Tolerance, Marks}
 use Rattle.groups.specs.Groups.{marked}
-use Rattle.cuts.specs.Cuts.{bind, decode, keyed, there, on_result}
+use Rattle.cuts.specs.Cuts.{bind, decode, keyed, on_result}
 use Rattle.headers.specs.declared.CarriageKind.{CarriageKind}
 use Rattle.headers.specs.declared.CarriageKind.TheVariants.{Echo, Seal}
 use Rattle.fields.specs.declared.kinds.ValueKind.{ValueKind}

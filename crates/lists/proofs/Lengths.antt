@@ -1,6 +1,6 @@
 -- A length that is not refused is 1 to 4. Assumes nothing.
 use Rattle.std.proofs.Common.{◌≡◌, ℕ, ◌≤◌, Bool, true, false, cond, ◌&&◌, leb, Some, None, arith}
-use Rattle.std.proofs.lemmas.Bool.{and_parts, leb-true}
+use Rattle.std.proofs.lemmas.Bool.{leb-true}
 use Rattle.lists.specs.Lists.{length_fault}
 use Rattle.faults.specs.declared.causes.ListFault.TheVariants.{Length}
 

@@ -1,8 +1,8 @@
 -- After every run the carriage's state is what the run's events say, and the events say it in words. Assumes nothing.
-use Rattle.std.proofs.Common.{◌≡◌, ℕ, suc, ◌+◌, ◌*◌, ◌<◌, ◌≤◌, Bool, true, false, not, ◌&&◌, ◌||◌, eqb, leb, ◌⊎◌, ◌↔◌, List, [], ◌∷◌, sym, refl, ap, ◌∙◌, subst, inl, inr, ⊎_elim, add-one, arith}
+use Rattle.std.proofs.Common.{◌≡◌, ℕ, suc, ◌+◌, ◌*◌, ◌≤◌, Bool, true, false, not, ◌&&◌, ◌||◌, eqb, leb, List, [], ◌∷◌, sym, refl, ap, ◌∙◌, subst, inl, inr, ⊎_elim, add-one, arith}
 use mathlib.Core.Bool.{Bool-set}
 use mathlib.Core.Logic.{∥∥₁_elim}
-use Rattle.std.proofs.lemmas.Bool.{and_parts, and_from, and_left, and_right, or_cases, or_left, or_right, both_ways, eqb-true, eq-eqb, ne_eqb, leb-true, le-leb, cases_Bool, not-true, not_from_false, false≢true}
+use Rattle.std.proofs.lemmas.Bool.{and_parts, and_from, and_left, and_right, or_cases, or_left, or_right, both_ways, eq-eqb, ne_eqb, leb-true, le-leb, cases_Bool, not-true, not_from_false, false≢true}
 use Rattle.sets.specs.Sets.{count}
 use Rattle.sets.proofs.Counts.{someone_in, in_someone}
 use Rattle.groups.specs.Groups.{correct}
@@ -11,14 +11,13 @@ use Rattle.carriage.specs.Runs.{Event, start, offer, inject, turn, Ran, none, st
 use Rattle.carriage.specs.Moments.{Since, SamePhase}
 use Rattle.groups.specs.declared.members.Group.{Group}
 use Rattle.carriage.specs.declared.frames.Triple.{Triple}
-use Rattle.carriage.specs.declared.frames.Frame.{Frame}
 use Rattle.carriage.proofs.Allowed.{offer_allowed}
 use Rattle.groups.proofs.Marked.{correct_below}
 use Rattle.carriage.proofs.Slots.{same_is}
 use Rattle.seal.specs.Seals.{seal_account, seal_model, state_of}
 use Rattle.seal.specs.Sound.{Sound}
 use Rattle.seal.specs.State.{State, fresh_state, start_state, offer_state, inject_state, turn_state, takes}
-use Rattle.seal.specs.Story.{brings_to, hears_now, steps_now, has_accepted, newly_accepted, OnePhaseEarlier, Hears, Heard, Says, TellsTheRun}
+use Rattle.seal.specs.Story.{brings_to, hears_now, steps_now, has_accepted, newly_accepted, OnePhaseEarlier, Hears, Heard, TellsTheRun}
 use Rattle.seal.specs.declared.sealing.Seal.{Seal}
 
 module _ (g : Group) (len : ℕ) where

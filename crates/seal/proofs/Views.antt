@@ -10,7 +10,7 @@ use Rattle.carriage.specs.declared.frames.Triple.{Triple}
 use Rattle.carriage.specs.declared.frames.Frame.{Frame}
 use Rattle.carriage.proofs.Slots.{slot_small, slot_round}
 use Rattle.carriage.proofs.Tables.{kept, added}
-use Rattle.seal.specs.State.{State, start_state, offer_state, inject_state, turn_state, takes, steps}
+use Rattle.seal.specs.State.{start_state, offer_state, inject_state, turn_state, takes, steps}
 use Rattle.seal.specs.Cells.{Blank, CellTurned, blank, cell_steps}
 use Rattle.seal.specs.View.{cell_of, view_of}
 use Rattle.seal.specs.declared.cells.Cell.{Cell}

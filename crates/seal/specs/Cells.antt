@@ -1,5 +1,5 @@
 -- One cell of the table, and what a turn makes of it. Assumes nothing.
-use Rattle.std.specs.Prelude.{◌≡◌, ℕ, ◌+◌, ◌*◌, Bool, true, false, not, ◌&&◌, ◌||◌, ◌==◌}
+use Rattle.std.specs.Prelude.{◌≡◌, ℕ, ◌+◌, ◌*◌, Bool, false, not, ◌&&◌, ◌||◌, ◌==◌}
 use Rattle.sets.specs.Sets.{has, size}
 use Rattle.sets.specs.declared.ControllerSet.{ControllerSet}
 use Rattle.seal.specs.State.{takes}

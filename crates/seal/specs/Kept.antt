@@ -1,14 +1,13 @@
 -- Every call keeps what is sound, and what is sound keeps the laws of a carriage. Assumes nothing.
-use Rattle.std.specs.Prelude.{◌≡◌, ℕ, ◌+◌, ◌*◌, ◌<◌, ◌≤◌, Bool, true, false, not, ◌&&◌, ◌||◌, ◌==◌, nat_le, refl}
+use Rattle.std.specs.Prelude.{◌≡◌, ℕ, ◌+◌, ◌*◌, ◌≤◌, Bool, true, false, not, ◌&&◌, ◌||◌, ◌==◌, nat_le, refl}
 use Rattle.std.proofs.Common.{sym, ap, ◌∙◌, ⊎_elim, arith}
 use Rattle.std.proofs.Math.Bool.{Bool-set}
 use Rattle.std.proofs.Math.Logic.{∥∥₁_elim}
-use Rattle.std.proofs.lemmas.Bool.{and_parts, and_from, or_cases, or_left, or_right, both_ways, eqb-true, eq-eqb, leb-true, le-leb, cases_Bool, cases_lt, cases_order, not-true, not-false, false≢true}
-use Rattle.sets.specs.Sets.{count}
+use Rattle.std.proofs.lemmas.Bool.{and_parts, and_from, or_cases, or_left, or_right, eq-eqb, leb-true, le-leb, cases_Bool, cases_lt, false≢true}
 use Rattle.sets.proofs.Counts.{someone_in, in_someone}
 use Rattle.groups.specs.Groups.{correct}
-use Rattle.carriage.specs.Triples.{in_range, same_triple}
-use Rattle.carriage.specs.Model.{Model, Lawful, Turned, end_phase}
+use Rattle.carriage.specs.Triples.{in_range}
+use Rattle.carriage.specs.Model.{Lawful, Turned, end_phase}
 use Rattle.groups.specs.declared.members.Group.{Group}
 use Rattle.carriage.specs.declared.frames.Triple.{Triple}
 use Rattle.carriage.specs.declared.frames.Frame.{Frame}

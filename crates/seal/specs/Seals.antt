@@ -1,5 +1,5 @@
 -- What the seal carriage's value stands for, and its own account of each taken call. Assumes nothing.
-use Rattle.std.specs.Prelude.{◌≡◌, ℕ, Bool, cond, not, ◌||◌, Some, None, Option, ◌==◌}
+use Rattle.std.specs.Prelude.{◌≡◌, Bool, cond, not, ◌||◌, Some, None, Option, ◌==◌}
 use Rattle.groups.specs.Groups.{correct}
 use Rattle.carriage.specs.Model.{Model, offer_fault, inject_fault, turn_fault}
 use Rattle.carriage.specs.Triples.{in_range}

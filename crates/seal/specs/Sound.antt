@@ -1,5 +1,5 @@
 -- What holds of a seal carriage at every moment. Assumes nothing.
-use Rattle.std.specs.Prelude.{◌≡◌, ℕ, ◌+◌, ◌*◌, ◌≤◌, Bool, true, false}
+use Rattle.std.specs.Prelude.{◌≡◌, ℕ, ◌+◌, ◌*◌, ◌≤◌, true, false}
 use Rattle.groups.specs.Groups.{correct}
 use Rattle.carriage.specs.Triples.{in_range}
 use Rattle.carriage.specs.declared.frames.Triple.{Triple}

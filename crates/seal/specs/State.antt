@@ -1,9 +1,9 @@
 -- The seal carriage between two calls, and what each call makes of it. Assumes nothing.
-use Rattle.std.specs.Prelude.{◌≡◌, ℕ, ◌+◌, ◌*◌, ◌≤◌, Bool, true, false, not, ◌&&◌, ◌||◌, ◌==◌, nat_le}
+use Rattle.std.specs.Prelude.{ℕ, ◌+◌, ◌*◌, Bool, false, not, ◌&&◌, ◌||◌, ◌==◌, nat_le}
 use Rattle.sets.specs.Sets.{count}
 use Rattle.groups.specs.Groups.{correct}
 use Rattle.carriage.specs.Triples.{in_range, same_triple}
-use Rattle.carriage.specs.Model.{Model, end_phase}
+use Rattle.carriage.specs.Model.{Model}
 use Rattle.groups.specs.declared.members.Group.{Group}
 use Rattle.carriage.specs.declared.frames.Triple.{Triple}
 use Rattle.carriage.specs.declared.frames.Frame.{Frame}

@@ -1,5 +1,5 @@
 -- The state that a group, a list length, a phase and a table of cells stand for. Assumes nothing.
-use Rattle.std.specs.Prelude.{ℕ, Bool, ◌&&◌, List, slice_index_or}
+use Rattle.std.specs.Prelude.{ℕ, ◌&&◌, List, slice_index_or}
 use Rattle.sets.specs.Sets.{has}
 use Rattle.carriage.specs.Triples.{in_range, slot_of}
 use Rattle.groups.specs.declared.members.Group.{Group}

@@ -1,5 +1,5 @@
 -- Which fault a number out of its range is refused with, if any. Assumes nothing.
-use Rattle.std.specs.Prelude.{ℕ, Bool, cond, ◌&&◌, Some, None, Option, nat_le, nat_lt}
+use Rattle.std.specs.Prelude.{ℕ, cond, ◌&&◌, Some, None, Option, nat_le, nat_lt}
 use Rattle.faults.specs.declared.causes.ValueFault.{ValueFault}
 use Rattle.faults.specs.declared.causes.ValueFault.TheVariants.{Block, Pulses}
 

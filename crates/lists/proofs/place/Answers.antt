@@ -1,8 +1,7 @@
-use Rattle.std.proofs.Common.{◌≡◌, ℕ, ◌<◌, Bool, true, false, length, get_or, Some, None, sym, ap, ◌∙◌, arith, below_more}
+use Rattle.std.proofs.Common.{◌≡◌, get_or, Some, None, sym, ap, ◌∙◌, arith, below_more}
 use Rattle.std.proofs.lemmas.List.{get_or_default}
 use Rattle.lists.specs.Lists.{FirstPlace}
 use Rattle.lists.proofs.Places.{first_is}
-use Rattle.lists.proofs.place.Given as given
 use Rattle.lists.proofs.place.Goals as goal
 
 pub loop-i-preserved : goal.loop-i-preserved

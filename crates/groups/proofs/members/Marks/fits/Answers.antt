@@ -1,4 +1,4 @@
-use Rattle.std.proofs.Common.{◌&&◌, eqb, leb, sym, ap, ◌∙◌}
+use Rattle.std.proofs.Common.{◌&&◌, eqb, leb, ap, ◌∙◌}
 use Rattle.sets.specs.Sets.{has, size}
 use Rattle.groups.proofs.Marked.{outside_counts}
 use Rattle.groups.proofs.members.Marks.fits.Goals as goal

@@ -1,5 +1,4 @@
 use Rattle.std.proofs.Common.{sym, subst, arith}
-use Rattle.std.proofs.lemmas.Bool.{and_parts, leb-true}
 use Rattle.lists.proofs.Lengths.{length_allowed}
 use Rattle.seal.specs.Sound.{Sound}
 use Rattle.seal.specs.Kept.{fresh_sound}

@@ -1,4 +1,4 @@
-use Rattle.std.proofs.Common.{◌≡◌, ◌+◌, ◌*◌, length, set, sym, ◌∙◌, subst, arith}
+use Rattle.std.proofs.Common.{◌≡◌, ◌+◌, ◌*◌, length, set, sym, subst, arith}
 use mathlib.Core.Logic.{∥∥₁_map}
 use Rattle.carriage.proofs.Allowed.{inject_allowed}
 use Rattle.echo.specs.Consistent.{Consistent}

@@ -1,12 +1,10 @@
-use Rattle.std.proofs.Common.{◌≡◌, length, set, sym, subst, arith}
+use Rattle.std.proofs.Common.{◌≡◌, length, sym, subst, arith}
 use mathlib.Core.Logic.{∥∥₁_map}
 use Rattle.carriage.proofs.Allowed.{offer_allowed}
 use Rattle.seal.specs.Seals.{seal_model, state_of}
 use Rattle.seal.specs.Sound.{Sound}
-use Rattle.seal.specs.State.{offer_state}
-use Rattle.seal.specs.View.{view_of}
 use Rattle.seal.specs.Kept.{offer_sound}
-use Rattle.seal.proofs.Views.{offer_call, offered_cell}
+use Rattle.seal.proofs.Views.{offer_call}
 use Rattle.seal.proofs.sealing.calls.SealCarriage.offer.Goals as goal
 
 pub invariant_of-self : goal.invariant_of-self
