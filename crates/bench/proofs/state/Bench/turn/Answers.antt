@@ -17,7 +17,7 @@ unreachable-requires g c =
     no_refusal c.in_default.field-0 _ c.in_default.ensures.refusal now-is.1
 
 pub offer_next-requires : goal.offer_next-requires
-offer_next-requires g c κs few =
+offer_next-requires g c few =
     let self = c.args.self.now in
     let m = g.C.Carriage.model self.carriage in
     let turned = c.turn.new.self in
