@@ -1,5 +1,7 @@
 -- A text that is read in is what would be written of the campaign. Assumes nothing.
-use Rattle.std.proofs.Common.{◌≡◌, ℕ, zero, suc, ◌<◌, ◌≤◌, Bool, true, false, cond, not, eqb, List, [], ◌∷◌, ◌++◌, length, IsErrAnd, IfOk, Some, None, Ok, Err, codes, decimal, Option, Result, sym, refl, ap, ◌∙◌, subst, append_assoc, arith, length-append}
+use Rattle.std.proofs.Common.{◌≡◌, ℕ, zero, suc, ◌<◌, ◌≤◌, Bool, true, false, cond, not, eqb, List, [], ◌∷◌, ◌++◌, length, IsErrAnd, IfOk, Some, None, Ok, Err, codes, decimal, Option, Result, sym, refl, ap, ◌∙◌, subst, append_assoc, arith, rules, length-append}
+use denote.Enum.Bare.{sameb, same_true}
+use Rattle.fields.specs.contracts.kinds.ValueKind.{the_type}
 use Rattle.std.proofs.lemmas.Result.{err_from_is_err_and}
 use Rattle.text_faults.specs.Faults.{Faulted}
 use Rattle.text_faults.specs.declared.errors.ReadError.{ReadError}
@@ -201,9 +203,10 @@ pub faulted : (e : ReadError) (P Q : TextFault → Type 0) → ((t : TextFault) 
 faulted (Fault t) P Q f h = f t h
 faulted Memory P Q f h = tt
 
-pub same_kind : (a b : ValueKind) → (x : Bool) × cond x (a ≡ b) (a ≡ b → ⊥) × (false ≡ not x) → a ≡ b
-same_kind a b h = go h.0 h.1 h.2
+-- what the derived comparison of kinds says
+pub same_kind : (a b : ValueKind) → false ≡ not (sameb the_type a b) → a ≡ b
+same_kind a b h = same_true the_type (search rules) a b (go (sameb the_type a b) h)
   where
-    go : (x : Bool) → cond x (a ≡ b) (a ≡ b → ⊥) → false ≡ not x → a ≡ b
-    go true e u = e
-    go false e u = let z : ◌≡◌ {A = ℕ} 0 1 = cc in absurd (omega arith)
+    go : (x : Bool) → false ≡ not x → x ≡ true
+    go true u = refl
+    go false u = u
