@@ -5,7 +5,7 @@ use Rattle.groups.specs.Groups.{Lowest}
 use Rattle.report.specs.Pool.{full, risen}
 use Rattle.report.proofs.Rising.{risen_none, risen_in, risen_past}
 use Rattle.report.proofs.pool.out_blocks.Goals as goal
-use Rattle.report.proofs.pool.out_blocks.Goals.{then-is-out+in-ok-push, else-is_out}
+use Rattle.report.proofs.pool.out_blocks.Goals.{then-is_out+in_ok-push, else-is_out}
 
 pub loop-block-init : goal.loop-block-init
 loop-block-init g c = c.new-out.ensures.items ∙ sym (risen_none _)
@@ -13,7 +13,7 @@ loop-block-init g c = c.new-out.ensures.items ∙ sym (risen_none _)
 pub loop-block-preserved : goal.loop-block-preserved
 loop-block-preserved g c =
     elim c.if-is_out.branch [
-      | then-is-out+in-ok-push w ↦
+      | then-is_out+in_ok-push w ↦
           ap vec_items w.out-is ∙ risen_in _ c.loop-block.block (vec_items c.loop-block.out) _ c.loop-block.invariant (sym c.is_out.ensures ∙ w.if-is_out.true) w.in_ok-push.ensures.items
       | else-is_out w ↦ ap vec_items w.out-is ∙ risen_past _ c.loop-block.block (vec_items c.loop-block.out) c.loop-block.invariant (sym c.is_out.ensures ∙ w.if-is_out.false)
     ]

@@ -13,7 +13,7 @@ use Rattle.report.specs.Texts.{Faulted, values_taken, ReadError}
 use Rattle.report.proofs.Listing.{values_fine, fine_length, opens}
 use Rattle.report.proofs.whole.run_kind.Given as given
 use Rattle.report.proofs.whole.run_kind.Goals as goal
-use Rattle.report.proofs.whole.run_kind.Goals.{After-len-len, at·unreachable-requires, at·run-bench-requires, at·returns-in-Echo, at·unreachable-requires-in_default-new, at·run-bench-requires-in-Seal, at·returns}
+use Rattle.report.proofs.whole.run_kind.Goals.{After-len-len, at-unreachable-requires, at-run_bench-requires, at-returns-in-Echo, at-unreachable-requires-in_default-new, at-run_bench-requires-in-Seal, at-returns}
 
 -- the list was read, so it is a value list, and the carriage is made for its length
 fine : (g : given.Over) (c : goal.After-len-len g) → list_fault g.K.Kind.same (vec_items c.in-Ok.list) ≡ None
@@ -34,18 +34,18 @@ pub overflow_cast-len : goal.overflow_cast-len
 overflow_cast-len g c = let few = (fine_length g.K.Kind.same (vec_items c.in-Ok.list) (fine g c)).1 in omega (arith, few, len g c)
 
 pub unreachable-requires : goal.unreachable-requires
-unreachable-requires g c = no_refusal c.in_default.field-0 _ c.in_default.ensures.refusal (lawful g (at·unreachable-requires g c).After-len-len)
+unreachable-requires g c = no_refusal c.in_default.field-0 _ c.in_default.ensures.refusal (lawful g (at-unreachable-requires g c).After-len-len)
 
 pub run_bench-requires : goal.run_bench-requires
 run_bench-requires g c =
-    let here = (at·run-bench-requires g c).After-len-len in
+    let here = (at-run_bench-requires g c).After-len-len in
     let made-for = ap (λ s. s.len) c.in-Ok-new.ensures.value ∙ len g here in
     subst (λ (xs : List g.row.K.Denot). open_fault (echo_model c.in-Ok-new.carriage) (rules_of g.K.Kind.same g.K.Kind.charge xs) ≡ None) (sym c.deref.ensures.value)
     (opens (echo_model c.in-Ok-new.carriage) (rules_of g.K.Kind.same g.K.Kind.charge (vec_items c.in-Ok.list)) made-for (fine g here))
 
 pub returns-in-Echo : goal.returns-in-Echo
 returns-in-Echo g c =
-    let here = (at·returns-in-Echo g c).After-len-len in
+    let here = (at-returns-in-Echo g c).After-len-len in
     let fresh = c.in-Ok-new.ensures.value ∙ ap (freshEcho c.args.header.now.group) (len g here) in
     IfOk-weaker c.run_bench.result _ _
     (λ p ran. echoed c.in-Ok.ensures c.in-Echo.is fresh
@@ -53,18 +53,18 @@ returns-in-Echo g c =
     c.run_bench.ensures
 
 pub unreachable-requires-in_default-new : goal.unreachable-requires-in_default-new
-unreachable-requires-in_default-new g c = no_refusal c.in_default-new.field-0 _ c.in_default-new.ensures.refusal (lawful g (at·unreachable-requires-in_default-new g c).After-len-len)
+unreachable-requires-in_default-new g c = no_refusal c.in_default-new.field-0 _ c.in_default-new.ensures.refusal (lawful g (at-unreachable-requires-in_default-new g c).After-len-len)
 
 pub run_bench-requires-in-Seal : goal.run_bench-requires-in-Seal
 run_bench-requires-in-Seal g c =
-    let here = (at·run-bench-requires-in-Seal g c).After-len-len in
+    let here = (at-run_bench-requires-in-Seal g c).After-len-len in
     let made-for = ap (λ s. s.len) c.in-Ok-new-2.ensures.value ∙ len g here in
     subst (λ (xs : List g.row.K.Denot). open_fault (seal_model c.in-Ok-new-2.carriage) (rules_of g.K.Kind.same g.K.Kind.charge xs) ≡ None) (sym c.deref-in-Seal.ensures.value)
     (opens (seal_model c.in-Ok-new-2.carriage) (rules_of g.K.Kind.same g.K.Kind.charge (vec_items c.in-Ok.list)) made-for (fine g here))
 
 pub returns : goal.returns
 returns g c =
-    let here = (at·returns g c).After-len-len in
+    let here = (at-returns g c).After-len-len in
     let fresh = c.in-Ok-new-2.ensures.value ∙ ap (freshSeal c.args.header.now.group) (len g here) in
     IfOk-weaker c.run_bench-in-Seal.result _ _
     (λ p ran. sealed c.in-Ok.ensures c.in-Seal.is fresh
