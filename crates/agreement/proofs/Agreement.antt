@@ -17,7 +17,7 @@ use Rattle.agreement.specs.Refusals.{given, first, answer_by, reader_fault, begi
 use Rattle.agreement.specs.Steps.{Begun, Injected, TurnTaken, after_close, charges, raised, Event, taken, refused, begin, inject, turn, close, Step}
 use Rattle.agreement.specs.Runs.{Run, none as ran-none, more as ran-more, Shot, turned_on, shot_of, note_close, closings}
 use Rattle.agreement.specs.Law.{told_by, times, AllShow, Shown, none as shown-none, more as shown-more, Agreed, AllAgree, opened}
-use Rattle.agreement.specs.declared.faults.BenchFault.TheVariants.{Moment as WrongMoment, Value, Carriage}
+use Rattle.agreement.specs.declared.bench_faults.BenchFault.TheVariants.{Moment as WrongMoment, Value, Carriage}
 use Rattle.agreement.specs.declared.moments.Act.TheVariants.{Verdict as AskVerdict, Close}
 use Rattle.agreement.specs.declared.moments.Moment.TheVariants.{Running, Ended}
 use Rattle.agreement.specs.declared.moments.Verdict.{Verdict}

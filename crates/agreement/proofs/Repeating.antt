@@ -13,7 +13,7 @@ use Rattle.agreement.specs.Refusals.{first, answer_by, length_cause, shots_fault
 use Rattle.agreement.specs.Steps.{Offered, none as no_offer, more as offer-more, Begun, Injected, TurnTaken, charges, raised, after_close, Call, begin, inject, turn, close, Event, taken, refused, fault_of, Does, Step}
 use Rattle.agreement.specs.Runs.{Run, none, more}
 use Rattle.agreement.specs.Repeats.{Settled, Alike, call_of, calls_of, answers_of, Same, AllRepeat}
-use Rattle.agreement.specs.declared.faults.BenchFault.TheVariants.{Moment as WrongMoment, Carriage, Value, List as ListCause}
+use Rattle.agreement.specs.declared.bench_faults.BenchFault.TheVariants.{Moment as WrongMoment, Carriage, Value, List as ListCause}
 use Rattle.agreement.specs.declared.moments.Act.TheVariants.{Begin, Inject, Turn, Verdict, Close}
 
 -- what a definition of these parts of a view says is the same of alike views

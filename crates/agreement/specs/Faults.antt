@@ -4,8 +4,8 @@ use Rattle.faults.specs.Faults.{value_layer, value_number, value_words, list_lay
 use Rattle.faults.specs.declared.layers.Layer.{Layer}
 use Rattle.faults.specs.declared.layers.Layer.TheVariants.{Bench}
 use Rattle.faults.specs.Faults.{carriage_layer, carriage_number, carriage_words}
-use Rattle.agreement.specs.declared.faults.BenchFault.{BenchFault}
-use Rattle.agreement.specs.declared.faults.BenchFault.TheVariants.{Moment, Sender, MarkedSender, NotListed, Shots, Value, List as ListCause, Carriage}
+use Rattle.agreement.specs.declared.bench_faults.BenchFault.{BenchFault}
+use Rattle.agreement.specs.declared.bench_faults.BenchFault.TheVariants.{Moment, Sender, MarkedSender, NotListed, Shots, Value, List as ListCause, Carriage}
 
 abbrev pub bench_layer : BenchFault → Layer
 bench_layer Moment = Bench

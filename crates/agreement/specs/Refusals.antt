@@ -13,8 +13,8 @@ use Rattle.faults.specs.declared.causes.CarriageFault.TheVariants.{NotCorrect}
 use Rattle.carriage.specs.declared.meaning.Carriage.{Ghosts as Account}
 use Rattle.agreement.specs.Views.{View, Rules, model_of, moment_of, fits}
 use Rattle.agreement.specs.Extraction.{verdict_of}
-use Rattle.agreement.specs.declared.faults.BenchFault.{BenchFault}
-use Rattle.agreement.specs.declared.faults.BenchFault.TheVariants.{Moment as WrongMoment, Sender, MarkedSender, NotListed, Shots, Value, List as ListCause, Carriage}
+use Rattle.agreement.specs.declared.bench_faults.BenchFault.{BenchFault}
+use Rattle.agreement.specs.declared.bench_faults.BenchFault.TheVariants.{Moment as WrongMoment, Sender, MarkedSender, NotListed, Shots, Value, List as ListCause, Carriage}
 use Rattle.agreement.specs.declared.moments.Act.{Act}
 use Rattle.agreement.specs.declared.moments.Act.TheVariants.{Begin, Inject, Turn, Verdict, Close}
 use Rattle.agreement.specs.declared.moments.Verdict.{Verdict as Outcome}

@@ -7,7 +7,7 @@ use Rattle.agreement.specs.Views.{View, Rules}
 use Rattle.agreement.specs.Refusals.{verdict_answer, tally_answer}
 use Rattle.agreement.specs.Steps.{Call, Event, taken, refused, fault_of}
 use Rattle.agreement.specs.Runs.{Run, none, more}
-use Rattle.agreement.specs.declared.faults.BenchFault.{BenchFault}
+use Rattle.agreement.specs.declared.bench_faults.BenchFault.{BenchFault}
 
 -- carriages in equal states stand for the same and go on to equal states
 pub record Settled {C S : Type 0} (account : Account C) (state : C → S) : Type 0 where

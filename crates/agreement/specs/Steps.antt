@@ -8,7 +8,7 @@ use Rattle.carriage.specs.declared.meaning.Carriage.{Ghosts as Account}
 use Rattle.agreement.specs.Views.{View, Rules, model_of}
 use Rattle.agreement.specs.Extraction.{first_sets, first_offers, sets_after, offers_after}
 use Rattle.agreement.specs.Refusals.{given, begin_fault, inject_refusal, turn_refusal, close_fault, verdict_at}
-use Rattle.agreement.specs.declared.faults.BenchFault.{BenchFault}
+use Rattle.agreement.specs.declared.bench_faults.BenchFault.{BenchFault}
 use Rattle.agreement.specs.declared.moments.Verdict.{Verdict}
 use Rattle.agreement.specs.declared.moments.Verdict.TheVariants.{Place, SenderFaulty}
 

@@ -3,8 +3,8 @@
 // knows a carriage but by the meaning that every carriage keeps.
 #![tactic(auto)]
 
-mod faults;
+mod bench_faults;
 mod moments;
 
-pub use faults::BenchFault;
+pub use bench_faults::BenchFault;
 pub use moments::{Act, Moment, Verdict};

@@ -5,7 +5,7 @@
 ghost use Rattle.agreement.specs.Law.{AllAgree, opened};
 ghost use Rattle.agreement.specs.Repeats.{AllRepeat};
 ghost use Rattle.agreement.specs.Views.{rules_of};
-ghost use Rattle.agreement.specs.declared.faults.BenchFault.TheVariants.{List};
+ghost use Rattle.agreement.specs.declared.bench_faults.BenchFault.TheVariants.{List};
 ghost use Rattle.bench.specs.Views.{view_of};
 ghost use Rattle.benches.specs.Opened.{EchoProtocol, SealProtocol};
 ghost use Rattle.echo.specs.Echoes.{echo_account, state_of as echoState};

@@ -4,7 +4,7 @@
 #[cfg(test)]
 mod echoes;
 #[cfg(test)]
-mod groups;
+mod group_making;
 #[cfg(test)]
 mod seals;
 #[cfg(test)]

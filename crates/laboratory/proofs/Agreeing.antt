@@ -7,8 +7,8 @@ use Rattle.agreement.specs.Refusals.{answer_by, first, verdict_answer, tally_ans
 use Rattle.agreement.specs.Runs.{Run, closings, shot_of, Shot}
 use Rattle.agreement.specs.Steps.{Event, charges}
 use Rattle.agreement.specs.Views.{View, Rules, model_of, moment_at, fits}
-use Rattle.agreement.specs.declared.faults.BenchFault.{BenchFault}
-use Rattle.agreement.specs.declared.faults.BenchFault.TheVariants.{Moment, Value}
+use Rattle.agreement.specs.declared.bench_faults.BenchFault.{BenchFault}
+use Rattle.agreement.specs.declared.bench_faults.BenchFault.TheVariants.{Moment, Value}
 use Rattle.agreement.specs.declared.moments.Act.TheVariants.{Verdict as VerdictAct}
 use Rattle.agreement.specs.declared.moments.Moment.TheVariants.{Ended, Running}
 use Rattle.agreement.specs.declared.moments.Verdict.{Verdict}

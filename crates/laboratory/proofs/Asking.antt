@@ -7,8 +7,8 @@ use Rattle.agreement.specs.Refusals.{first, open_fault, answer_by, moment_fault,
 use Rattle.agreement.specs.Runs.{more}
 use Rattle.agreement.specs.Steps.{taken, close, after_close}
 use Rattle.agreement.specs.Views.{View, Rules, model_of, moment_at, fits}
-use Rattle.agreement.specs.declared.faults.BenchFault.{BenchFault}
-use Rattle.agreement.specs.declared.faults.BenchFault.TheVariants.{Moment as WrongMoment, Value, List as ListCause, Carriage, Shots}
+use Rattle.agreement.specs.declared.bench_faults.BenchFault.{BenchFault}
+use Rattle.agreement.specs.declared.bench_faults.BenchFault.TheVariants.{Moment as WrongMoment, Value, List as ListCause, Carriage, Shots}
 use Rattle.agreement.specs.declared.moments.Act.TheVariants.{Begin, Close, Verdict as VerdictAct}
 use Rattle.agreement.proofs.Beginning.{first_none, mapped_none}
 use Rattle.groups.specs.Groups.{correct}

@@ -7,8 +7,8 @@ use Rattle.agreement.specs.Refusals.{given, begin_fault, inject_refusal, turn_re
 use Rattle.agreement.specs.Runs.{Run, none as ran-none, more as ran-more, closings, shot_of, turned_on}
 use Rattle.agreement.specs.Steps.{Event, taken, begin, inject, turn, Begun, Injected}
 use Rattle.agreement.specs.Views.{View, Rules, model_of, moment_of, fits}
-use Rattle.agreement.specs.declared.faults.BenchFault.{BenchFault}
-use Rattle.agreement.specs.declared.faults.BenchFault.TheVariants.{Moment as WrongMoment}
+use Rattle.agreement.specs.declared.bench_faults.BenchFault.{BenchFault}
+use Rattle.agreement.specs.declared.bench_faults.BenchFault.TheVariants.{Moment as WrongMoment}
 use Rattle.agreement.specs.declared.moments.Act.TheVariants.{Turn}
 use Rattle.agreement.specs.declared.moments.Moment.TheVariants.{Running, Ended}
 use Rattle.agreement.proofs.Agreement.{Keeps}

@@ -6,8 +6,8 @@ use Rattle.agreement.specs.Refusals.{first, open_fault, begin_fault, inject_refu
 use Rattle.agreement.specs.Runs.{Run, closings, shot_of}
 use Rattle.agreement.specs.Steps.{Event, Injected, TurnTaken}
 use Rattle.agreement.specs.Views.{View, Rules, model_of, moment_of}
-use Rattle.agreement.specs.declared.faults.BenchFault.{BenchFault}
-use Rattle.agreement.specs.declared.faults.BenchFault.TheVariants.{List as ListCause, Value, Carriage}
+use Rattle.agreement.specs.declared.bench_faults.BenchFault.{BenchFault}
+use Rattle.agreement.specs.declared.bench_faults.BenchFault.TheVariants.{List as ListCause, Value, Carriage}
 use Rattle.agreement.specs.declared.moments.Moment.TheVariants.{Ended}
 use Rattle.agreement.specs.declared.moments.Verdict.{Verdict}
 use Rattle.carriage.specs.Model.{Model, is_correct}

@@ -1,12 +1,12 @@
 // The reader of a campaign text: a lent text, a place in it, and the number of the line that stands there.
 #![tactic(auto)]
 
-mod acts;
+mod act_lines;
 mod guard;
 mod header;
 mod lines;
 mod places;
-mod values;
+mod value_lines;
 
 #[derive(Clone, Copy)]
 pub struct Reader<'a> {

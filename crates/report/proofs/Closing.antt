@@ -8,8 +8,8 @@ use Rattle.carriage.specs.declared.meaning.Carriage.{Ghosts as Account}
 use Rattle.carriage.proofs.Allowed.{no_fault}
 use Rattle.agreement.specs.Refusals.{answer_by, first, close_fault, verdict_at, verdict_answer}
 use Rattle.agreement.specs.Views.{View, Rules, model_of, moment_at, moment_of, fits}
-use Rattle.agreement.specs.declared.faults.BenchFault.{BenchFault}
-use Rattle.agreement.specs.declared.faults.BenchFault.TheVariants.{Moment as WrongMoment, Carriage}
+use Rattle.agreement.specs.declared.bench_faults.BenchFault.{BenchFault}
+use Rattle.agreement.specs.declared.bench_faults.BenchFault.TheVariants.{Moment as WrongMoment, Carriage}
 use Rattle.agreement.specs.declared.moments.Act.TheVariants.{Close, Verdict as VerdictAct}
 use Rattle.agreement.specs.declared.moments.Moment.{Moment}
 use Rattle.agreement.specs.declared.moments.Moment.TheVariants.{Idle, Running, Ended}

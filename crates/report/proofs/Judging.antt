@@ -8,7 +8,7 @@ use Rattle.agreement.specs.Law.{Agreed, AllAgree}
 use Rattle.agreement.specs.Runs.{Run, none as ran-none, more as ran-more, Shot, shot_of}
 use Rattle.agreement.specs.Steps.{Call, begin, inject, turn, close, Event}
 use Rattle.agreement.specs.Views.{View, Rules, model_of}
-use Rattle.agreement.specs.declared.faults.BenchFault.{BenchFault}
+use Rattle.agreement.specs.declared.bench_faults.BenchFault.{BenchFault}
 use Rattle.laboratory.proofs.Agreeing.{verdict_tells}
 use Rattle.lines.specs.declared.happenings.Happening.{Happening}
 use Rattle.lines.specs.declared.happenings.Happening.TheVariants.{Shot as ShotTold}

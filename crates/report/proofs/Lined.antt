@@ -5,7 +5,7 @@ use Rattle.carriage.specs.declared.meaning.Carriage.{Ghosts as Account}
 use Rattle.agreement.specs.Faults.{bench_layer, bench_number}
 use Rattle.agreement.specs.Steps.{Event, taken, refused, fault_of, Does}
 use Rattle.agreement.specs.Views.{View, Rules}
-use Rattle.agreement.specs.declared.faults.BenchFault.{BenchFault}
+use Rattle.agreement.specs.declared.bench_faults.BenchFault.{BenchFault}
 use Rattle.lines.specs.declared.happenings.Happening.{Happening}
 use Rattle.lines.specs.declared.happenings.Happening.TheVariants.{Refused}
 use Rattle.report.specs.Courses.{call_of, told_of, taken_by, refused_by, Line, unread, denied, done, LineRun, Tells, Course, begun, next}

@@ -13,7 +13,7 @@ use Rattle.agreement.specs.Refusals.{tally_answer}
 use Rattle.agreement.specs.Runs.{closings, note_close}
 use Rattle.agreement.specs.Steps.{Call, begin, inject, turn, close, Event, taken}
 use Rattle.agreement.specs.Views.{View, Rules, model_of}
-use Rattle.agreement.specs.declared.faults.BenchFault.{BenchFault}
+use Rattle.agreement.specs.declared.bench_faults.BenchFault.{BenchFault}
 use Rattle.agreement.specs.declared.moments.Verdict.{Verdict}
 use Rattle.laboratory.proofs.Agreeing.{verdict_tells}
 use Rattle.lines.specs.declared.happenings.Happening.{Happening}

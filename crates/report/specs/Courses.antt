@@ -9,7 +9,7 @@ use Rattle.agreement.specs.Faults.{bench_layer, bench_number}
 use Rattle.agreement.specs.Refusals.{verdict_answer}
 use Rattle.agreement.specs.Steps.{Call, begin, inject, turn, close, Event, taken, refused, fault_of, Does}
 use Rattle.agreement.specs.Views.{View, Rules, model_of}
-use Rattle.agreement.specs.declared.faults.BenchFault.{BenchFault}
+use Rattle.agreement.specs.declared.bench_faults.BenchFault.{BenchFault}
 use Rattle.agreement.specs.declared.moments.Verdict.{Verdict}
 use Rattle.bench.specs.Views.{sender_of}
 use Rattle.lines.specs.declared.happenings.Happening.{Happening}

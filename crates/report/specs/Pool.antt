@@ -3,7 +3,7 @@ use Rattle.std.specs.Prelude.{ℕ, zero, suc, Bool, false, cond, List, [], ◌�
 use Rattle.carriage.specs.declared.meaning.Carriage.{Ghosts as Account}
 use Rattle.agreement.specs.Refusals.{tally_answer}
 use Rattle.agreement.specs.Views.{View}
-use Rattle.agreement.specs.declared.faults.BenchFault.{BenchFault}
+use Rattle.agreement.specs.declared.bench_faults.BenchFault.{BenchFault}
 
 -- a tally of 3 was read
 abbrev pub full : Result ℕ BenchFault → Bool

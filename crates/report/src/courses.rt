@@ -5,7 +5,7 @@ ghost use Rattle.bench.specs.Views.{view_of};
 ghost use Rattle.report.specs.Courses.{told_of, taken_by, refused_by, LineRun, ActsRun};
 ghost use Rattle.lines.specs.declared.happenings.Happening.TheVariants.{Refused};
 
-use crate::acts::perform;
+use crate::acting::perform;
 use bench::Bench;
 use carriage::Carriage;
 use faults::Fault;

@@ -1,7 +1,7 @@
 // Runs a campaign text over a bench and reports what came of it.
 #![tactic(auto)]
 
-mod acts;
+mod acting;
 mod courses;
 mod pool;
 mod whole;

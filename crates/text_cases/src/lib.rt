@@ -2,7 +2,7 @@
 #![tactic(auto)]
 
 #[cfg(test)]
-mod headers;
+mod header_lines;
 #[cfg(test)]
 mod lines;
 #[cfg(test)]

@@ -4,7 +4,7 @@
 #[cfg(test)]
 mod cases;
 #[cfg(test)]
-mod headers;
+mod header_lines;
 #[cfg(test)]
 mod lines;
 #[cfg(test)]

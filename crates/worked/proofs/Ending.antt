@@ -13,7 +13,7 @@ use Rattle.agreement.specs.Law.{AllShow}
 use Rattle.agreement.specs.Refusals.{first, answer_by, close_fault, verdict_answer, tally_answer}
 use Rattle.agreement.specs.Steps.{charges, after_close}
 use Rattle.agreement.specs.Views.{View, Rules}
-use Rattle.agreement.specs.declared.faults.BenchFault.TheVariants.{Value, List as ListCause}
+use Rattle.agreement.specs.declared.bench_faults.BenchFault.TheVariants.{Value, List as ListCause}
 use Rattle.agreement.specs.declared.moments.Verdict.{Verdict}
 use Rattle.agreement.specs.declared.moments.Verdict.TheVariants.{Place}
 use Rattle.worked.proofs.Four.{four, three_correct}

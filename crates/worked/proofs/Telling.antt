@@ -13,7 +13,7 @@ use Rattle.agreement.specs.Refusals.{first, given, begin_fault, inject_refusal, 
 use Rattle.agreement.specs.Runs.{Run, none, more}
 use Rattle.agreement.specs.Steps.{Begun, Injected, TurnTaken}
 use Rattle.agreement.specs.Views.{View, Rules}
-use Rattle.agreement.specs.declared.faults.BenchFault.TheVariants.{List as ListCause}
+use Rattle.agreement.specs.declared.bench_faults.BenchFault.TheVariants.{List as ListCause}
 use Rattle.worked.specs.Stories.{first_story, second_story, late_echo, both_stories, Believes, MadeForFour}
 use Rattle.worked.proofs.Four.{four, is_four}
 use Rattle.worked.proofs.Replays.{state_account, image, after_begin, after_inject, after_turn, begin_image, inject_image, turn_image}

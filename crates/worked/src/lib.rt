@@ -2,8 +2,8 @@
 // two stories, played and proved call by call.
 #![tactic(auto)]
 
-mod groups;
+mod four_group;
 mod stories;
 
-pub use groups::four_controllers;
+pub use four_group::four_controllers;
 pub use stories::two_stories;

@@ -4,7 +4,7 @@ ghost use Rattle.agreement.specs.Refusals.{inject_refusal, turn_refusal, verdict
 ghost use Rattle.agreement.specs.Runs.{Run};
 ghost use Rattle.agreement.specs.Steps.{Injected, TurnTaken};
 ghost use Rattle.agreement.specs.Views.{rules_of};
-ghost use Rattle.agreement.specs.declared.faults.BenchFault.TheVariants.{List};
+ghost use Rattle.agreement.specs.declared.bench_faults.BenchFault.TheVariants.{List};
 ghost use Rattle.agreement.specs.declared.moments.Verdict.TheVariants.{Place};
 ghost use Rattle.bench.specs.Views.{view_of};
 ghost use Rattle.echo.specs.Echoes.{echo_account};
@@ -13,7 +13,7 @@ ghost use Rattle.std.specs.Prelude.{◌≡◌, true, [], ◌∷◌, length, is_o
 ghost use Rattle.std.specs.Result.{result_err};
 ghost use Rattle.worked.specs.Stories.{MadeForFour, TwoStories, pair_fault, story_told_to, both_stories};
 
-use crate::groups::four_controllers;
+use crate::four_group::four_controllers;
 use agreement::{BenchFault, Verdict};
 use bench::Bench;
 use carriage::{Carriage, Frame, Triple};

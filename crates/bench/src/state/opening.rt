@@ -2,7 +2,7 @@
 ghost use Rattle.agreement.specs.Law.{AllAgree, opened};
 ghost use Rattle.agreement.specs.Refusals.{open_fault};
 ghost use Rattle.agreement.specs.Views.{rules_of};
-ghost use Rattle.agreement.specs.declared.faults.BenchFault.TheVariants.{List};
+ghost use Rattle.agreement.specs.declared.bench_faults.BenchFault.TheVariants.{List};
 ghost use Rattle.bench.specs.Views.{view_of};
 ghost use Rattle.std.specs.Option.{option_map};
 ghost use Rattle.std.specs.Prelude.{◌≡◌, IfOk, Some, None, MatchResult};

@@ -1,6 +1,6 @@
 use Rattle.std.proofs.Common.{ap, subst₂}
 use Rattle.agreement.specs.Views.{rules_of}
-use Rattle.agreement.specs.declared.faults.BenchFault.TheVariants.{List}
+use Rattle.agreement.specs.declared.bench_faults.BenchFault.TheVariants.{List}
 use Rattle.agreement.proofs.Repeating.{repeating}
 use Rattle.echo.specs.Echoes.{echo_account, state_of}
 use Rattle.echo.specs.Story.{Says}

@@ -2,7 +2,7 @@ use Rattle.std.proofs.Common.{◌≡◌, ◌+◌, None, sym, ap, ◌∙◌}
 use Rattle.std.specs.Option.{option_map}
 use Rattle.agreement.specs.Refusals.{close_fault}
 use Rattle.agreement.specs.Views.{rules_of}
-use Rattle.agreement.specs.declared.faults.BenchFault.TheVariants.{Value}
+use Rattle.agreement.specs.declared.bench_faults.BenchFault.TheVariants.{Value}
 use Rattle.agreement.proofs.Beginning.{first_none}
 use Rattle.bench.specs.Views.{view_of}
 use Rattle.bench.proofs.Chains.{no_refusal}

@@ -4,7 +4,7 @@ use Rattle.agreement.specs.Refusals.{first, close_fault}
 use Rattle.agreement.specs.Runs.{more}
 use Rattle.agreement.specs.Steps.{taken, close}
 use Rattle.agreement.specs.Views.{rules_of}
-use Rattle.agreement.specs.declared.faults.BenchFault.TheVariants.{Value}
+use Rattle.agreement.specs.declared.bench_faults.BenchFault.TheVariants.{Value}
 use Rattle.agreement.proofs.Beginning.{first_none}
 use Rattle.bench.specs.Views.{view_of}
 use Rattle.bench.proofs.Chains.{no_refusal}

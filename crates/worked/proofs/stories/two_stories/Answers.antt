@@ -2,7 +2,7 @@ use Rattle.std.proofs.Common.{◌≡◌, is_ok, None, sym, ap, ◌∙◌, subst}
 use Rattle.std.specs.Option.{option_map}
 use Rattle.agreement.specs.Law.{opened}
 use Rattle.agreement.specs.Views.{rules_of}
-use Rattle.agreement.specs.declared.faults.BenchFault.TheVariants.{List}
+use Rattle.agreement.specs.declared.bench_faults.BenchFault.TheVariants.{List}
 use Rattle.bench.specs.Views.{view_of}
 use Rattle.bench.proofs.Chains.{no_refusal}
 use Rattle.worked.specs.Stories.{MadeForFour, pair_fault}

@@ -2,7 +2,7 @@ use Rattle.std.proofs.Common.{◌≡◌, length, None, sym, ap, ◌∙◌, arith
 use Rattle.std.specs.Option.{option_map}
 use Rattle.std.proofs.lemmas.Bool.{eqb-true}
 use Rattle.agreement.specs.Refusals.{sender_fault}
-use Rattle.agreement.specs.declared.faults.BenchFault.TheVariants.{List}
+use Rattle.agreement.specs.declared.bench_faults.BenchFault.TheVariants.{List}
 use Rattle.agreement.proofs.Beginning.{passed}
 use Rattle.bench.proofs.Refusing.{hit, past, handed, some_mapped}
 use Rattle.bench.proofs.state.Bench.check_begin.Goals as goal

@@ -5,7 +5,7 @@ use Rattle.groups.specs.Groups.{correct}
 use Rattle.agreement.specs.Extraction.{verdict_of}
 use Rattle.agreement.specs.Steps.{charges, raised}
 use Rattle.agreement.specs.Views.{rules_of}
-use Rattle.agreement.specs.declared.faults.BenchFault.TheVariants.{List}
+use Rattle.agreement.specs.declared.bench_faults.BenchFault.TheVariants.{List}
 use Rattle.agreement.proofs.Beginning.{passed}
 use Rattle.bench.specs.Tables.{in_set, tally_of}
 use Rattle.bench.proofs.Refusing.{past}

@@ -5,7 +5,7 @@ use Rattle.bench.specs.Views.{view_of}
 use Rattle.bench.proofs.Refusing.{handed}
 use Rattle.report.specs.Courses.{Tells}
 use Rattle.report.proofs.Framing.{injection_call}
-use Rattle.report.proofs.acts.perform.Goals as goal
+use Rattle.report.proofs.acting.perform.Goals as goal
 
 pub returns-in_err-inject-in-Inject : goal.returns-in_err-inject-in-Inject
 returns-in_err-inject-in-Inject g c =

@@ -2,7 +2,7 @@ use Rattle.std.proofs.Common.{ap, ◌∙◌}
 use Rattle.sets.specs.Sets.{has}
 use Rattle.bench.proofs.Chains.{no_refusal}
 use Rattle.worked.proofs.Table.{worked_cases, four_group, with_3}
-use Rattle.worked.proofs.groups.four_controllers.Goals as goal
+use Rattle.worked.proofs.four_group.four_controllers.Goals as goal
 
 pub unreachable-requires-in_default-new : goal.unreachable-requires-in_default-new
 unreachable-requires-in_default-new c =

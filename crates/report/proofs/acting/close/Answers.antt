@@ -3,7 +3,7 @@ use Rattle.agreement.specs.Views.{rules_of}
 use Rattle.bench.specs.Views.{view_of}
 use Rattle.groups.specs.Groups.{Lowest}
 use Rattle.report.proofs.Closing.{always_shown, always_sent}
-use Rattle.report.proofs.acts.close.Goals as goal
+use Rattle.report.proofs.acting.close.Goals as goal
 
 pub unreachable-requires : goal.unreachable-requires
 unreachable-requires g c =

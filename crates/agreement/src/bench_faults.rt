@@ -1,6 +1,6 @@
 // The faults of a bench. Those of a value, a list or a carriage are kept as they are, with number and layer.
 ghost use Rattle.agreement.specs.Faults.{bench_layer, bench_number, bench_words};
-ghost use Rattle.agreement.specs.declared.faults.BenchFault.TheVariants.{Value, List, Carriage};
+ghost use Rattle.agreement.specs.declared.bench_faults.BenchFault.TheVariants.{Value, List, Carriage};
 ghost use Rattle.std.specs.Prelude.{◌≡◌, Some};
 
 use faults::{CarriageFault, Fault, Layer, ListFault, ValueFault};
