@@ -1,5 +1,5 @@
 -- A run of a bench takes its carriage through a run of its own. Assumes nothing.
-use Rattle.std.proofs.Common.{◌≡◌, List, [], ◌∷◌, sym, ap, subst}
+use Rattle.std.proofs.Common.{◌≡◌, List, sym, subst}
 use Rattle.agreement.specs.Runs.{Run, none, more}
 use Rattle.agreement.specs.Steps.{Event, taken, refused, begin, inject, turn, close, Step, Offered}
 use Rattle.agreement.specs.Views.{View, Rules}

@@ -1,11 +1,11 @@
 -- What the law says of answers that correct controllers gave. Assumes nothing.
-use Rattle.std.proofs.Common.{◌≡◌, ℕ, ◌+◌, ◌*◌, ◌<◌, ◌≤◌, min, Bool, true, false, cond, eqb, ltb, List, [], ◌∷◌, ◌++◌, Some, None, Ok, Option, Result, sym, refl, ap, ◌∙◌, subst, arith}
+use Rattle.std.proofs.Common.{◌≡◌, ℕ, ◌+◌, ◌*◌, ◌<◌, min, Bool, true, false, cond, eqb, ltb, List, [], ◌∷◌, Some, None, Ok, Option, Result, sym, refl, ap, ◌∙◌, arith}
 use Rattle.std.specs.Option.{option_map}
 use Rattle.std.proofs.lemmas.Bool.{eqb-true, ltb-true, both_ways}
-use Rattle.agreement.specs.Law.{AllShow, Shown, none, more, Agreed, AllAgree, times}
+use Rattle.agreement.specs.Law.{Shown, none, more, Agreed, times}
 use Rattle.agreement.specs.Refusals.{answer_by, first, verdict_answer, tally_answer}
-use Rattle.agreement.specs.Runs.{Run, closings, shot_of, Shot}
-use Rattle.agreement.specs.Steps.{Event, charges}
+use Rattle.agreement.specs.Runs.{shot_of, Shot}
+use Rattle.agreement.specs.Steps.{Event}
 use Rattle.agreement.specs.Views.{View, Rules, model_of, moment_at, fits}
 use Rattle.agreement.specs.declared.bench_faults.BenchFault.{BenchFault}
 use Rattle.agreement.specs.declared.bench_faults.BenchFault.TheVariants.{Moment, Value}
@@ -16,7 +16,6 @@ use Rattle.groups.specs.Groups.{correct}
 use Rattle.carriage.specs.Model.{Model, is_correct, end_phase}
 use Rattle.carriage.specs.declared.meaning.Carriage.{Ghosts as Account}
 use Rattle.carriage.proofs.Allowed.{no_fault}
-use Rattle.values.specs.Ranges.{block_fault}
 use Rattle.faults.specs.declared.causes.ValueFault.{ValueFault}
 use Rattle.faults.specs.declared.causes.ValueFault.TheVariants.{Block}
 

@@ -1,5 +1,5 @@
 -- What the calls after a played shot are refused with, and that a shot can be played again. Assumes nothing.
-use Rattle.std.proofs.Common.{◌≡◌, ℕ, ◌+◌, ◌<◌, Bool, true, false, cond, eqb, ltb, List, [], ◌∷◌, length, is_some, Some, None, Ok, Err, Option, Result, sym, refl, ap, ◌∙◌, arith}
+use Rattle.std.proofs.Common.{◌≡◌, ℕ, ◌+◌, ◌<◌, false, cond, eqb, ltb, ◌∷◌, length, is_some, Some, None, Ok, Err, Option, sym, refl, ap, ◌∙◌, arith}
 use Rattle.std.specs.Option.{option_map}
 use Rattle.std.proofs.lemmas.Bool.{eq-eqb, lt-ltb, cond-true}
 use Rattle.agreement.specs.Law.{opened}
@@ -10,7 +10,7 @@ use Rattle.agreement.specs.Views.{View, Rules, model_of, moment_at, fits}
 use Rattle.agreement.specs.declared.bench_faults.BenchFault.{BenchFault}
 use Rattle.agreement.specs.declared.bench_faults.BenchFault.TheVariants.{Moment as WrongMoment, Value, List as ListCause, Carriage, Shots}
 use Rattle.agreement.specs.declared.moments.Act.TheVariants.{Begin, Close, Verdict as VerdictAct}
-use Rattle.agreement.proofs.Beginning.{first_none, mapped_none}
+use Rattle.agreement.proofs.Beginning.{first_none}
 use Rattle.groups.specs.Groups.{correct}
 use Rattle.carriage.specs.Model.{Model}
 use Rattle.faults.specs.declared.causes.CarriageFault.TheVariants.{NotCorrect}

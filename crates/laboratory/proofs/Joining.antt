@@ -1,5 +1,5 @@
 -- A run that goes on. Assumes nothing.
-use Rattle.std.proofs.Common.{◌≡◌, List, [], ◌∷◌, ◌++◌, refl, ap, ◌∙◌}
+use Rattle.std.proofs.Common.{◌≡◌, List, ◌++◌, refl, ap, ◌∙◌}
 use Rattle.agreement.specs.Runs.{Run, none, more, closings, note_close}
 use Rattle.agreement.specs.Steps.{Event, taken, refused, begin, inject, turn, close}
 use Rattle.agreement.specs.Views.{View, Rules}

@@ -1,5 +1,5 @@
 -- What frames and turns move, and that the turns of a shot are taken. Assumes nothing.
-use Rattle.std.proofs.Common.{◌≡◌, ℕ, suc, ◌+◌, ◌*◌, ◌<◌, ◌≤◌, Bool, true, cond, eqb, List, [], ◌∷◌, ◌++◌, Some, None, Ok, Err, Option, Result, sym, refl, ap, ◌∙◌, subst, arith, MatchResult}
+use Rattle.std.proofs.Common.{◌≡◌, ℕ, suc, ◌+◌, ◌*◌, ◌<◌, cond, eqb, List, [], ◌∷◌, Some, None, Ok, Err, Option, Result, sym, refl, ap, ◌∙◌, subst, arith, MatchResult}
 use Rattle.std.specs.Option.{option_map}
 use Rattle.std.specs.Result.{result_err}
 use Rattle.std.proofs.lemmas.Bool.{eq-eqb, ne_eqb, cond-true, cond-false}
@@ -10,7 +10,7 @@ use Rattle.agreement.specs.Views.{View, Rules, model_of, moment_of, fits}
 use Rattle.agreement.specs.declared.bench_faults.BenchFault.{BenchFault}
 use Rattle.agreement.specs.declared.bench_faults.BenchFault.TheVariants.{Moment as WrongMoment}
 use Rattle.agreement.specs.declared.moments.Act.TheVariants.{Turn}
-use Rattle.agreement.specs.declared.moments.Moment.TheVariants.{Running, Ended}
+use Rattle.agreement.specs.declared.moments.Moment.TheVariants.{Running}
 use Rattle.agreement.proofs.Agreement.{Keeps}
 use Rattle.agreement.proofs.Offering.{chain_offers}
 use Rattle.bench.specs.Views.{view_of}

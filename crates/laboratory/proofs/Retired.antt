@@ -1,6 +1,6 @@
 -- Three closed shots after one another, and what the law says of the tallies between them. Assumes nothing.
-use Rattle.std.proofs.Common.{◌≡◌, ℕ, ◌+◌, min, Bool, true, cond, List, [], ◌∷◌, ◌++◌, sym, refl, ap, ◌∙◌, subst, arith}
-use Rattle.agreement.specs.Law.{Agreed, AllAgree, times}
+use Rattle.std.proofs.Common.{◌≡◌, ℕ, ◌+◌, min, Bool, true, cond, List, [], ◌∷◌, ◌++◌, sym, refl, ap, ◌∙◌, subst}
+use Rattle.agreement.specs.Law.{AllAgree, times}
 use Rattle.agreement.specs.Runs.{Run, closings}
 use Rattle.agreement.specs.Steps.{Event, charges}
 use Rattle.agreement.specs.Views.{View, Rules}

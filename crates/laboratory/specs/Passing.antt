@@ -1,15 +1,14 @@
 -- Stretches of a run: a shot from its begin to its last phase, and to its close. Assumes nothing.
-use Rattle.std.specs.Prelude.{◌≡◌, ℕ, suc, ◌+◌, ◌*◌, ◌≤◌, true, false, cond, List, [], ◌∷◌, Some, None, Ok, Option}
+use Rattle.std.specs.Prelude.{◌≡◌, ℕ, suc, ◌+◌, ◌*◌, ◌≤◌, true, cond, List, [], Some, None, Option}
 use Rattle.std.specs.Option.{option_map}
 use Rattle.agreement.specs.Law.{opened}
-use Rattle.agreement.specs.Refusals.{first, open_fault, begin_fault, inject_refusal, turn_refusal, verdict_answer, tally_answer}
+use Rattle.agreement.specs.Refusals.{first, open_fault, begin_fault, inject_refusal, turn_refusal}
 use Rattle.agreement.specs.Runs.{Run, closings, shot_of}
 use Rattle.agreement.specs.Steps.{Event, Injected, TurnTaken}
 use Rattle.agreement.specs.Views.{View, Rules, model_of, moment_of}
 use Rattle.agreement.specs.declared.bench_faults.BenchFault.{BenchFault}
 use Rattle.agreement.specs.declared.bench_faults.BenchFault.TheVariants.{List as ListCause, Value, Carriage}
 use Rattle.agreement.specs.declared.moments.Moment.TheVariants.{Ended}
-use Rattle.agreement.specs.declared.moments.Verdict.{Verdict}
 use Rattle.carriage.specs.Model.{Model, is_correct}
 use Rattle.faults.specs.declared.causes.CarriageFault.TheVariants.{NotCorrect}
 use Rattle.carriage.specs.declared.frames.Frame.{Frame}

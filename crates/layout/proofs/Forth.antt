@@ -1,5 +1,5 @@
 -- What is written of a campaign is read back as that campaign. Assumes nothing.
-use Rattle.std.proofs.Common.{◌≡◌, ℕ, zero, suc, ◌+◌, ◌-◌, ◌<◌, ◌≤◌, Bool, true, false, cond, ◌&&◌, eqb, leb, List, [], ◌∷◌, ◌++◌, length, drop, Some, None, Ok, Err, codes, decimal, Option, Result, sym, refl, ap, ◌∙◌, subst, append_assoc, add-one, arith, length-append, Bor}
+use Rattle.std.proofs.Common.{◌≡◌, ℕ, suc, ◌+◌, ◌-◌, ◌<◌, ◌≤◌, Bool, true, false, cond, ◌&&◌, eqb, leb, List, [], ◌∷◌, ◌++◌, length, drop, Some, None, Ok, codes, decimal, Option, Result, sym, refl, ap, ◌∙◌, subst, append_assoc, add-one, arith, length-append, Bor}
 use mathlib.Core.Path.{fun_ext}
 use Rattle.std.specs.List.{AllByRecursion as All}
 use Rattle.std.proofs.lemmas.List.{append-nil, drop-drop}
@@ -18,15 +18,14 @@ use Rattle.headers.specs.Headers.{bench_reads, number_reads, count_reads, carria
 use Rattle.headers.specs.Lines.{line_of_marks, line_of_carriage, line_of_kind}
 use Rattle.headers.proofs.Forths.{OneLine, bench_line, bench_forth, n_line, n_forth, t_line, t_forth, carriage_line, carriage_forth, kind_line, kind_forth, count_line, count_forth}
 use Rattle.headers.proofs.MarkTexts.{marks_forth, marks_line}
-use Rattle.text_faults.specs.declared.texts.TextFault.{TextFault}
-use Rattle.reader.specs.Heads.{then, grouped, group_taken, from_count, from_kind, from_carriage, from_marks, from_t, from_n, head_taken}
+use Rattle.reader.specs.Heads.{grouped, group_taken, from_count, from_kind, from_carriage, from_marks, from_t, from_n, head_taken}
 use Rattle.reader.specs.Lines.{line_in}
-use Rattle.reader.specs.Lists.{value_reads, listed, last_taken, values_taken, acts_taken}
+use Rattle.reader.specs.Lists.{value_reads, listed, values_taken, acts_taken}
 use Rattle.reader.specs.Reading.{left, passed, taken, start}
 use Rattle.reader.specs.declared.Reader.{Reader}
 use Rattle.reader.proofs.Chains.{then_ok, there_some, there_none}
 use Rattle.reader.proofs.Standing.{behind}
-use Rattle.reader.proofs.Taking.{values_more, acts_more, acts_end}
+use Rattle.reader.proofs.Taking.{acts_more, acts_end}
 use Rattle.layout.specs.Campaigns.{campaign_taken}
 use Rattle.layout.specs.Render.{Told, value_lines, act_lines, render}
 use Rattle.layout.proofs.Texts.{head_text, campaign_made}

@@ -1,6 +1,5 @@
 -- The format: the text of a campaign, line by line, each with its line feed (10). Assumes nothing.
 use Rattle.std.specs.Prelude.{ℕ, Bool, List, [], ◌∷◌, ◌++◌, length, codes, decimal}
-use Rattle.groups.specs.Groups.{marked}
 use Rattle.acts.specs.Acts.{line_of_act}
 use Rattle.acts.specs.declared.Act.{Act}
 use Rattle.headers.specs.declared.CarriageKind.{CarriageKind}

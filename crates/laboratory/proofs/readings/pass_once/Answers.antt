@@ -8,7 +8,6 @@ use Rattle.bench.specs.Views.{view_of}
 use Rattle.bench.proofs.Chains.{no_refusal}
 use Rattle.bench.proofs.Refusing.{hit, past, handed}
 use Rattle.values.specs.Ranges.{block_fault}
-use Rattle.laboratory.specs.Passing.{reader_at}
 use Rattle.laboratory.proofs.Asking.{fault_of_ok, fault_of_err, first_alone, verdict_asked, close_fine, closed_reader, passed_once}
 use Rattle.laboratory.proofs.readings.pass_once.Goals as goal
 

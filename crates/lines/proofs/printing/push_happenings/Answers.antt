@@ -1,4 +1,4 @@
-use Rattle.std.proofs.Common.{◌++◌, drop, string_bytes, sym, ap, ◌∙◌}
+use Rattle.std.proofs.Common.{◌++◌, string_bytes, sym, ap, ◌∙◌}
 use Rattle.std.proofs.lemmas.List.{drop_all, append-nil}
 use Rattle.lines.specs.Printed.{happening_lines}
 use Rattle.lines.proofs.Pushing.{happening_step}

@@ -1,4 +1,4 @@
-use Rattle.std.proofs.Common.{◌++◌, map, drop, string_bytes, decimal, sym, ap, ◌∙◌}
+use Rattle.std.proofs.Common.{◌++◌, map, string_bytes, decimal, sym, ap, ◌∙◌}
 use Rattle.std.proofs.lemmas.List.{drop_all, append-nil}
 use Rattle.lines.specs.Printed.{commaed}
 use Rattle.lines.proofs.Pushing.{block_step}

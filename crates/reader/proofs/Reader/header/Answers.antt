@@ -1,4 +1,4 @@
-use Rattle.std.proofs.Common.{Ok, sym, ap, ◌∙◌}
+use Rattle.std.proofs.Common.{Ok, sym, ◌∙◌}
 use Rattle.groups.specs.Groups.{marked}
 use Rattle.reader.specs.Heads.{from_n, from_t, from_marks, from_carriage, from_kind, from_count}
 use Rattle.reader.proofs.Chains.{then_ok, then_err, exit_by}

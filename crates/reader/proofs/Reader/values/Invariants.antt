@@ -1,4 +1,4 @@
-use Rattle.std.proofs.Common.{◌≡◌, ◌+◌, ◌-◌, ◌≤◌, [], vec_items}
+use Rattle.std.proofs.Common.{◌≡◌, ◌+◌, ◌-◌, [], vec_items}
 use Rattle.reader.specs.Lists.{values_taken}
 use Rattle.reader.proofs.Reader.values.Given as goal
 

@@ -1,6 +1,4 @@
-use Rattle.std.proofs.Common.{◌∙◌, arith}
-use Rattle.std.proofs.lemmas.Bool.{cond-true, le-leb}
-use Rattle.cuts.proofs.Fields.{bind_forth}
+use Rattle.std.proofs.Common.{arith}
 use Rattle.reader.proofs.Standing.{line_cut}
 use Rattle.reader.proofs.guard.whole_line.Goals as goal
 

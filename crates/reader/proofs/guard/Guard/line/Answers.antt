@@ -1,4 +1,4 @@
-use Rattle.std.proofs.Common.{refl, arith, rules}
+use Rattle.std.proofs.Common.{refl, rules}
 use Rattle.reader.proofs.Standing.{line_at}
 use Rattle.reader.proofs.guard.Guard.line.Goals as goal
 

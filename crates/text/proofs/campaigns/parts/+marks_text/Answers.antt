@@ -1,7 +1,7 @@
-use Rattle.std.proofs.Common.{◌∷◌, ◌++◌, map, decimal, sym, ap, ◌∙◌, arith}
+use Rattle.std.proofs.Common.{◌++◌, decimal, sym, ap, ◌∙◌, arith}
 use Rattle.groups.specs.Groups.{marked}
 use Rattle.std.proofs.lemmas.Result.{IfOk-weaker}
-use Rattle.headers.specs.Lines.{marks_shown, list_from}
+use Rattle.headers.specs.Lines.{marks_shown}
 use Rattle.text.proofs.Shown.{list_past, list_unmarked, list_marked, join_commaed}
 use Rattle.text.proofs.campaigns.parts.+marks_text.Goals as goal
 

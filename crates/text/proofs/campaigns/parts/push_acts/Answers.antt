@@ -1,4 +1,4 @@
-use Rattle.std.proofs.Common.{◌++◌, drop, string_bytes, sym, ap, ◌∙◌, subst}
+use Rattle.std.proofs.Common.{◌++◌, string_bytes, sym, ap, ◌∙◌, subst}
 use Rattle.std.specs.List.{AllByRecursion as All}
 use Rattle.std.proofs.ByRecursion.{All-more}
 use Rattle.std.proofs.lemmas.List.{drop_all, take_all, append-nil}

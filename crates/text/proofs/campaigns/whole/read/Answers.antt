@@ -1,5 +1,4 @@
-use Rattle.std.proofs.Common.{◌≡◌, Bool, true, false, cond, not, Ok, vec_items, sym, ap, ◌∙◌, subst}
-use Rattle.headers.specs.Headers.{head_of}
+use Rattle.std.proofs.Common.{sym, ap, ◌∙◌}
 use Rattle.reader.specs.Heads.{head_taken}
 use Rattle.reader.specs.Reading.{start}
 use Rattle.reader.proofs.Chains.{exit_by}
