@@ -1,5 +1,5 @@
 -- The controllers that have accepted a triple. Assumes nothing.
-use Rattle.std.specs.Prelude.{◌≡◌, ℕ, ◌<◌, Bool, ◌&&◌, nat_lt}
+use Rattle.std.specs.Prelude.{◌≡◌, ℕ, Bool, ◌&&◌, nat_lt}
 use Rattle.sets.specs.Sets.{has}
 use Rattle.sets.specs.declared.ControllerSet.{ControllerSet}
 use Rattle.carriage.specs.Model.{Model, is_correct, knows}

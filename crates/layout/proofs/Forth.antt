@@ -1,7 +1,7 @@
 -- What is written of a campaign is read back as that campaign. Assumes nothing.
 use Rattle.std.proofs.Common.{◌≡◌, ℕ, suc, ◌+◌, ◌-◌, ◌<◌, ◌≤◌, Bool, true, false, cond, ◌&&◌, eqb, leb, List, [], ◌∷◌, ◌++◌, length, drop, Some, None, Ok, codes, decimal, Option, Result, sym, refl, ap, ◌∙◌, subst, append_assoc, add-one, arith, length-append, Bor}
 use mathlib.Core.Path.{fun_ext}
-use Rattle.std.specs.List.{AllByRecursion as All}
+use Rattle.std.specs.List.{AllByRecursion}
 use Rattle.std.proofs.lemmas.List.{append-nil, drop-drop}
 use Rattle.std.proofs.lemmas.Bool.{cond-true, le-leb, leb-true, ne_eqb, and_parts}
 use Rattle.std.specs.Option.{option_or}
@@ -94,7 +94,7 @@ module _ {K : Type 0} (shows : K → List ℕ) (reads : List ℕ → Option (Res
   value_forth r v rest f e = taken_forth (value_reads reads) r (codes "v=" ++ shows v) rest v e (value_line v f) (forth v f)
 
   module _ (same : K → K → Bool) where
-    values_forth : (us : List K) (v : K) (vs : List K) (r : Reader) (rest : List ℕ) → All fits (v ∷ vs) → list_fault same (us ++ v ∷ vs) ≡ None → left r ≡ value_lines shows (v ∷ vs) rest
+    values_forth : (us : List K) (v : K) (vs : List K) (r : Reader) (rest : List ℕ) → AllByRecursion fits (v ∷ vs) → list_fault same (us ++ v ∷ vs) ≡ None → left r ≡ value_lines shows (v ∷ vs) rest
         → (after : Reader) × (values_taken reads same (length (v ∷ vs)) us r ≡ (Ok (us ++ v ∷ vs), after)) × (left after ≡ rest)
     values_forth us v [] r rest f l e =
         let w = value_forth r v rest f.0 e in
@@ -108,7 +108,7 @@ module _ {K : Type 0} (shows : K → List ℕ) (reads : List ℕ → Option (Res
   act_line_lem : (a : Act K) → ActFits fits a → OneLine (line_of_act shows a)
   act_line_lem a f = (act_unbroken shows fits unbroken brief a f, act_brief shows fits unbroken brief a f)
 
-  acts_forth : (n : ℕ) (xs ys : List (Act K)) (r : Reader) → All (ActFits fits) ys → length (left r) ≤ n → left r ≡ act_lines shows ys → (after : Reader) × (acts_taken reads n xs r ≡ (Ok (xs ++ ys), after))
+  acts_forth : (n : ℕ) (xs ys : List (Act K)) (r : Reader) → AllByRecursion (ActFits fits) ys → length (left r) ≤ n → left r ≡ act_lines shows ys → (after : Reader) × (acts_taken reads n xs r ≡ (Ok (xs ++ ys), after))
   acts_forth n xs [] r f l e = (r, acts_end reads n xs r (ap (λ s. eqb (length s) 0) e) ∙ ap (λ ws. (Ok ws, r)) (sym (append-nil xs)))
   acts_forth n xs (a ∷ ys) r f l e =
       let w = taken_forth (act_reads reads) r (line_of_act shows a) (act_lines shows ys) a e (act_line_lem a f.0) (act_forth shows reads fits forth undashed a f.0) in
@@ -123,8 +123,8 @@ module _ {K : Type 0} (shows : K → List ℕ) (reads : List ℕ → Option (Res
     pub low : (k : ℕ) → 16 ≤ k → c.marks k ≡ false
     pub lawful : group_fault_by c.n c.t c.marks ≡ None
     pub listed : list_fault same c.values ≡ None
-    pub values_fit : All fits c.values
-    pub acts_fit : All (ActFits fits) c.acts
+    pub values_fit : AllByRecursion fits c.values
+    pub acts_fit : AllByRecursion (ActFits fits) c.acts
 
   pub campaign_forth : (same : K → K → Bool) (kind : ValueKind) (c : Told K) → Fine same c → (text : Bor (List ℕ)) → text.now ≡ render shows kind c → (campaign_taken reads same kind (start text)).0 ≡ Ok c
   unfolding render
@@ -136,7 +136,7 @@ module _ {K : Type 0} (shows : K → List ℕ) (reads : List ℕ → Option (Res
           let count = list_count same c.values ok.listed in
           let h : Head = record { n = c.n; t = c.t; marks = c.marks; carriage = c.carriage; kind = kind; count = length c.values } in
           let hd = head_forth h (record { n_fits = ok.n_fits; t_fits = ok.t_fits; low = ok.low; lawful = ok.lawful; some = count.0; few = count.1 }) (start text) (value_lines shows c.values (act_lines shows c.acts)) e in
-          let w = values_forth same [] v vs hd.0 (act_lines shows c.acts) (subst (All fits) u ok.values_fit) (ap (list_fault same) (sym u) ∙ ok.listed) (hd.2 ∙ ap (λ ws. value_lines shows ws (act_lines shows c.acts)) u) in
+          let w = values_forth same [] v vs hd.0 (act_lines shows c.acts) (subst (AllByRecursion fits) u ok.values_fit) (ap (list_fault same) (sym u) ∙ ok.listed) (hd.2 ∙ ap (λ ws. value_lines shows ws (act_lines shows c.acts)) u) in
           let read : values_taken reads same (length c.values) [] hd.0 ≡ (Ok c.values, w.0) = (λ i. values_taken reads same (length (u i)) [] hd.0) ∙ w.1 ∙ ap (λ ws. (Ok ws, w.0)) (sym u) in
           let a = acts_forth (length (left w.0)) [] c.acts w.0 ok.acts_fit (omega arith) w.2 in
           ap (λ p. p.0) (campaign_made reads same kind (start text) hd.0 h hd.1 refl c.values w.0 read c.acts a.0 a.1)

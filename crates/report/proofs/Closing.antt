@@ -1,6 +1,6 @@
 -- A close that is taken comes after the last phase: every correct controller has a verdict then, and the shot a sender. Assumes
 -- nothing.
-use Rattle.std.proofs.Common.{◌≡◌, ℕ, Bool, true, false, cond, Some, None, Ok, Err, Option, Result, sym, refl, ap, ◌∙◌, arith}
+use Rattle.std.proofs.Common.{◌≡◌, ℕ, Bool, true, false, cond, Some, None, Ok, Err, sym, refl, ap, arith}
 use Rattle.std.proofs.lemmas.Bool.{both_ways}
 use Rattle.carriage.specs.Model.{Model, is_correct}
 use Rattle.faults.specs.declared.causes.CarriageFault.TheVariants.{NotCorrect}
@@ -13,7 +13,6 @@ use Rattle.agreement.specs.declared.bench_faults.BenchFault.TheVariants.{Moment 
 use Rattle.agreement.specs.declared.moments.Act.TheVariants.{Close, Verdict as VerdictAct}
 use Rattle.agreement.specs.declared.moments.Moment.{Moment}
 use Rattle.agreement.specs.declared.moments.Moment.TheVariants.{Idle, Running, Ended}
-use Rattle.agreement.specs.declared.moments.Verdict.{Verdict}
 use Rattle.agreement.proofs.Beginning.{first_none}
 use Rattle.bench.specs.Views.{sender_of}
 

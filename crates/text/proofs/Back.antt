@@ -1,7 +1,7 @@
 -- What is written of a campaign is read back as that campaign. Assumes nothing.
 use Rattle.std.proofs.Common.{◌≡◌, ℕ, ◌≤◌, Bool, List, [], ◌∷◌, ◌++◌, length, take, Some, None, Ok, vec_items, Option, Result, ◌∙◌, arith}
 use Rattle.std.proofs.lemmas.List.{take-append-le, take_all}
-use Rattle.std.specs.List.{AllByRecursion as All}
+use Rattle.std.specs.List.{AllByRecursion}
 use Rattle.lists.specs.Lists.{list_fault}
 use Rattle.faults.specs.declared.causes.ValueFault.{ValueFault}
 use Rattle.cuts.specs.Cuts.{Lacks}
@@ -17,7 +17,7 @@ use Rattle.text.specs.declared.campaigns.Campaign.{Campaign}
 module _ {K : Type 0} (shows : K → List ℕ) (reads : List ℕ → Option (Result K ValueFault)) (fits : K → Type 0)
     (forth : (v : K) → fits v → reads (shows v) ≡ Some (Ok v)) (unbroken : (v : K) → fits v → Lacks 10 (shows v)) (brief : (v : K) → fits v → length (shows v) ≤ 20)
     (undashed : reads (45 ∷ []) ≡ None) (same : K → K → Bool) (kind : ValueKind) where
-  pub written_back : (c : Campaign K) (t : List ℕ) → t ≡ render shows kind (told_of c) → All fits (vec_items c.values) → All (ActFits fits) (vec_items c.acts) → list_fault same (vec_items c.values) ≡ None
+  pub written_back : (c : Campaign K) (t : List ℕ) → t ≡ render shows kind (told_of c) → AllByRecursion fits (vec_items c.values) → AllByRecursion (ActFits fits) (vec_items c.acts) → list_fault same (vec_items c.values) ≡ None
       → ReadsAs reads same kind t (told_of c)
   written_back c t e vs xs l text is = campaign_forth shows reads fits forth unbroken brief undashed same kind (told_of c) fine text (is ∙ e)
     where

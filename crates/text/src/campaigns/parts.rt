@@ -2,7 +2,7 @@
 ghost use Rattle.std.specs.Prelude.{◌≡◌, ℕ, ◌-◌, List, ◌++◌, map, IfOk, string_bytes, decimal, OnOk};
 ghost use Rattle.acts.specs.Acts.{ActFits};
 ghost use Rattle.groups.specs.Groups.{marked};
-ghost use Rattle.std.specs.List.{AllByRecursion as All};
+ghost use Rattle.std.specs.List.{AllByRecursion};
 ghost use Rattle.headers.specs.Lines.{list_from, commaed, marks_shown};
 ghost use Rattle.layout.specs.Render.{value_lines, act_lines};
 
@@ -46,7 +46,7 @@ pub(crate) fn push_values<K: Written>(
     heap: Global,
 ) -> Result<(), AllocError>
     ensures bytes { OnOk result ((rest : List ℕ) → string_bytes text.new ++ rest ≡ string_bytes text.old ++ value_lines K.Written.shows values.now rest) }
-    ensures fit { OnOk result (All K.Written.fits values.now) }
+    ensures fit { OnOk result (AllByRecursion K.Written.fits values.now) }
 {
     for v in values {
         let fields = v.written(heap)?;
@@ -63,7 +63,7 @@ pub(crate) fn push_acts<K: Written>(
     heap: Global,
 ) -> Result<(), AllocError>
     ensures bytes { OnOk result (string_bytes text.new ≡ string_bytes text.old ++ act_lines K.Written.shows acts.now) }
-    ensures fit { OnOk result (All (ActFits K.Written.fits) acts.now) }
+    ensures fit { OnOk result (AllByRecursion (ActFits K.Written.fits) acts.now) }
 {
     for a in acts {
         let line = act_line(a, heap)?;

@@ -1,5 +1,5 @@
 use Rattle.std.proofs.Common.{None, refl, ap, ◌∙◌, subst}
-use Rattle.agreement.specs.Steps.{Call, inject, fault_of, Does}
+use Rattle.agreement.specs.Steps.{Call, fault_of, Does}
 use Rattle.agreement.specs.Views.{rules_of}
 use Rattle.bench.specs.Views.{view_of}
 use Rattle.bench.proofs.Refusing.{handed}

@@ -1,5 +1,5 @@
 use Rattle.std.proofs.Common.{◌++◌, string_bytes, sym, ap, ◌∙◌, subst}
-use Rattle.std.specs.List.{AllByRecursion as All}
+use Rattle.std.specs.List.{AllByRecursion}
 use Rattle.std.proofs.ByRecursion.{All-more}
 use Rattle.std.proofs.lemmas.List.{drop_all, take_all, append-nil}
 use Rattle.acts.specs.Acts.{ActFits}
@@ -25,5 +25,5 @@ returns g c =
     let past = c.loop-a-test.false in
     record {
       bytes = sym (append-nil (string_bytes c.loop-a.text)) ∙ ap (λ ys. string_bytes c.loop-a.text ++ act_lines g.K.Written.shows ys) (sym (drop_all i xs past)) ∙ c.loop-a.invariant.0;
-      fit = subst (All (ActFits g.K.Written.fits)) (take_all i xs past) c.loop-a.invariant.1;
+      fit = subst (AllByRecursion (ActFits g.K.Written.fits)) (take_all i xs past) c.loop-a.invariant.1;
     }

@@ -1,5 +1,5 @@
 use Rattle.std.proofs.Common.{◌++◌, string_bytes, sym, ap, ◌∙◌, subst}
-use Rattle.std.specs.List.{AllByRecursion as All}
+use Rattle.std.specs.List.{AllByRecursion}
 use Rattle.std.proofs.ByRecursion.{All-more}
 use Rattle.std.proofs.lemmas.List.{drop_all, take_all}
 use Rattle.layout.specs.Render.{value_lines}
@@ -24,5 +24,5 @@ returns g c =
     let past = c.loop-v-test.false in
     record {
       bytes = λ rest. ap (λ ys. string_bytes c.loop-v.text ++ value_lines g.K.Written.shows ys rest) (sym (drop_all i xs past)) ∙ c.loop-v.invariant.0 rest;
-      fit = subst (All g.K.Written.fits) (take_all i xs past) c.loop-v.invariant.1;
+      fit = subst (AllByRecursion g.K.Written.fits) (take_all i xs past) c.loop-v.invariant.1;
     }

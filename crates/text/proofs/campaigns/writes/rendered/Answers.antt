@@ -2,7 +2,7 @@ use Rattle.std.proofs.Common.{◌++◌, vec_items, string_bytes, codes, decimal,
 use Rattle.std.proofs.lemmas.Result.{IfOk-weaker}
 use Rattle.layout.specs.Render.{value_lines, act_lines, render}
 use Rattle.headers.specs.Lines.{line_of_kind, line_of_marks}
-use Rattle.std.specs.List.{AllByRecursion as All}
+use Rattle.std.specs.List.{AllByRecursion}
 use Rattle.acts.specs.Acts.{ActFits}
 use Rattle.text.proofs.Back.{written_back}
 use Rattle.text.proofs.campaigns.writes.rendered.Goals as goal
@@ -21,8 +21,8 @@ returns g c =
     let text = IfOk-weaker c.format-2.result _ _
     (λ s e. e ∙ (λ i. codes "bench=1\nn=" ++ (decimal (c.n-n.ensures i) ++ (codes "\nt=" ++ (decimal (c.t-t.ensures i) ++ (codes "\nmarks=" ++ (c.in_ok-marks.ensures i ++ (codes "\n" ++ rest i))))))))
     c.format-2.ensures.ok in
-    let values_fit = subst (All g.K.Written.fits) c.deref.ensures.value c.in_ok-push_values.ensures.fit in
-    let acts_fit = subst (All (ActFits g.K.Written.fits)) c.deref-2.ensures.value c.in_ok-push_acts.ensures.fit in
+    let values_fit = subst (AllByRecursion g.K.Written.fits) c.deref.ensures.value c.in_ok-push_values.ensures.fit in
+    let acts_fit = subst (AllByRecursion (ActFits g.K.Written.fits)) c.deref-2.ensures.value c.in_ok-push_acts.ensures.fit in
     record {
       text = text;
       back = λ h. IfOk-weaker c.format-2.result _ _
