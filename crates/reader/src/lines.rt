@@ -9,7 +9,7 @@ use text_faults::TextFault;
 
 impl Reader<'_> {
     // Reads the line at the reader's place. A refused one leaves the reader as it was.
-    pub(crate) fn take<T, F: Form<T>>(&mut self, form: &F) -> Result<T, TextFault>
+    pub fn take<T, F: Form<T>>(&mut self, form: &F) -> Result<T, TextFault>
         ensures { (result, self.new) ≡ taken (F.Form.meant form.now) self.old }
     {
         let number = self.line;
