@@ -8,8 +8,8 @@ ghost use Rattle.agreement.specs.Views.{rules_of};
 ghost use Rattle.agreement.specs.declared.bench_faults.BenchFault.TheVariants.{List};
 ghost use Rattle.bench.specs.Views.{view_of};
 ghost use Rattle.benches.specs.Opened.{EchoProtocol, SealProtocol};
-ghost use Rattle.echo.specs.Echoes.{echo_account, state_of as echoState};
-ghost use Rattle.seal.specs.Seals.{seal_account, state_of as sealState};
+ghost use Rattle.echo.specs.Echoes.{echo_account, state_of as echo_state};
+ghost use Rattle.seal.specs.Seals.{seal_account, state_of as seal_state};
 ghost use Rattle.std.specs.Option.{option_map};
 ghost use Rattle.std.specs.Prelude.{◌≡◌, length, IfOk, OnOk};
 ghost use Rattle.std.specs.Result.{result_err};
@@ -28,7 +28,7 @@ pub fn open_echo<K: Kind>(group: Group, list: &[K]) -> Result<Bench<Echo>, Bench
     ensures refusal { result_err result ≡ option_map List (list_fault K.Kind.same list.now) }
     ensures law { IfOk result (λ b. AllAgree echo_account (rules_of K.Kind.same K.Kind.charge list.now) (view_of b)) }
     ensures protocol { IfOk result (λ b. EchoProtocol (rules_of K.Kind.same K.Kind.charge list.now) group (length list.now) (view_of b)) }
-    ensures repeats { OnOk result (AllRepeat echo_account (rules_of K.Kind.same K.Kind.charge list.now) echoState) }
+    ensures repeats { OnOk result (AllRepeat echo_account (rules_of K.Kind.same K.Kind.charge list.now) echo_state) }
 {
     check_list(list)?;
     let Ok(carriage) = Echo::new(group, list.len() as u16) else {
@@ -45,7 +45,7 @@ pub fn open_seal<K: Kind>(group: Group, list: &[K]) -> Result<Bench<Seal>, Bench
     ensures refusal { result_err result ≡ option_map List (list_fault K.Kind.same list.now) }
     ensures law { IfOk result (λ b. AllAgree seal_account (rules_of K.Kind.same K.Kind.charge list.now) (view_of b)) }
     ensures protocol { IfOk result (λ b. SealProtocol (rules_of K.Kind.same K.Kind.charge list.now) group (length list.now) (view_of b)) }
-    ensures repeats { OnOk result (AllRepeat seal_account (rules_of K.Kind.same K.Kind.charge list.now) sealState) }
+    ensures repeats { OnOk result (AllRepeat seal_account (rules_of K.Kind.same K.Kind.charge list.now) seal_state) }
 {
     check_list(list)?;
     let Ok(carriage) = Seal::new(group, list.len() as u16) else {

@@ -9,25 +9,25 @@ use Rattle.agreement.specs.declared.bench_faults.BenchFault.{BenchFault}
 use Rattle.lines.specs.declared.happenings.Happening.{Happening}
 use Rattle.lines.specs.declared.happenings.Happening.TheVariants.{Refused}
 use Rattle.report.specs.Courses.{call_of, told_of, taken_by, refused_by, Line, unread, denied, done, LineRun, Tells, Course, begun, next}
-use Rattle.report.specs.Texts.{act_reads, Act, line_of, text_layer, text_number, left, skipped, lineTaken, TextFault, Reader}
+use Rattle.report.specs.Texts.{act_reads, Act, line_of, text_layer, text_number, left, skipped, line_taken, TextFault, Reader}
 use Rattle.report.specs.Truth.{lines_in}
 use Rattle.report.specs.declared.courses.Outcome.{Outcome}
 use Rattle.report.specs.declared.courses.Outcome.TheVariants.{Taken, Denied}
 use Rattle.report.proofs.Passing.{refused_stays, read_skips, skip_shrinks, skip_counts}
 
 module _ {C K : Type 0} {account : Account C} {rules : Rules K} {reads : List ℕ → Option (Result K ValueFault)} where
-  pub line_unread : (r s after : Reader) (v : View C) (e : TextFault) (h : Happening) → (Err e, s) ≡ lineTaken (act_reads reads) r → after ≡ skipped s → h ≡ Refused (line_of e) (text_layer e) (text_number e)
+  pub line_unread : (r s after : Reader) (v : View C) (e : TextFault) (h : Happening) → (Err e, s) ≡ line_taken (act_reads reads) r → after ≡ skipped s → h ≡ Refused (line_of e) (text_layer e) (text_number e)
       → LineRun account rules reads r v (Denied h) after v
   line_unread r s after v e h is skip told =
       let stays = refused_stays (act_reads reads) r s e is in
       subst₂ (λ (k : Happening) (x : Reader). LineRun account rules reads r v (Denied k) x v) (sym told) (sym (skip ∙ ap skipped stays)) (record { events = []; line = unread (sym is ∙ ap (λ k. (Err e, k)) stays) })
 
-  pub line_denied : (r after : Reader) (v w : View C) (a : Act K) (e : BenchFault) (h : Happening) → (Ok a, after) ≡ lineTaken (act_reads reads) r → Some e ≡ fault_of account rules v (call_of a) → w ≡ v
+  pub line_denied : (r after : Reader) (v w : View C) (a : Act K) (e : BenchFault) (h : Happening) → (Ok a, after) ≡ line_taken (act_reads reads) r → Some e ≡ fault_of account rules v (call_of a) → w ≡ v
       → h ≡ Refused r.line (bench_layer e) (bench_number e) → LineRun account rules reads r v (Denied h) after w
   line_denied r after v w a e h is fault same told =
       subst₂ (λ (k : Happening) (x : View C). LineRun account rules reads r v (Denied k) after x) (sym told) (sym same) (record { events = refused (call_of a) ∷ []; line = denied (sym is) (sym fault) })
 
-  pub line_done : (r after : Reader) (v w : View C) (a : Act K) (h : Option Happening) → (Ok a, after) ≡ lineTaken (act_reads reads) r → None ≡ fault_of account rules v (call_of a)
+  pub line_done : (r after : Reader) (v w : View C) (a : Act K) (h : Option Happening) → (Ok a, after) ≡ line_taken (act_reads reads) r → None ≡ fault_of account rules v (call_of a)
       → Does account rules v (call_of a) w → Tells account v (call_of a) h → LineRun account rules reads r v (Taken h) after w
   line_done r after v w a h is fault does tells = record { events = taken (call_of a) ∷ []; line = done (sym is) (sym fault) does tells }
 

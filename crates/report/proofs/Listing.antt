@@ -10,7 +10,7 @@ use Rattle.carriage.proofs.Allowed.{no_fault}
 use Rattle.agreement.specs.Refusals.{open_fault}
 use Rattle.agreement.specs.Views.{Rules}
 use Rattle.agreement.proofs.Beginning.{first_none}
-use Rattle.report.specs.Texts.{there, value_reads, listed, last_taken, values_taken, then, lineTaken, TextFault, ListAt, Reader}
+use Rattle.report.specs.Texts.{there, value_reads, listed, last_taken, values_taken, then, line_taken, TextFault, ListAt, Reader}
 
 module _ {K : Type 0} (reads : List ℕ → Option (Result K ValueFault)) (same : K → K → Bool) where
   listed_fine : (vs : List K) (r after end : Reader) (v : K) (xs : List K) → listed reads same vs r v after ≡ (Ok xs, end) → list_fault same xs ≡ None
@@ -21,7 +21,7 @@ module _ {K : Type 0} (reads : List ℕ → Option (Result K ValueFault)) (same 
       go (Some f) is e = let never = ap (λ p. p.0) e in let z : ◌≡◌ {A = ℕ} 0 1 = cc in absurd (omega arith)
 
   last_fine : (vs : List K) (r end : Reader) (xs : List K) → last_taken reads same vs r ≡ (Ok xs, end) → list_fault same xs ≡ None
-  last_fine vs r end xs h = go (lineTaken (value_reads reads) r) h
+  last_fine vs r end xs h = go (line_taken (value_reads reads) r) h
     where
       go : (p : Result K TextFault × Reader) → then p (listed reads same vs r) ≡ (Ok xs, end) → list_fault same xs ≡ None
       go (Ok v, after) e = listed_fine vs r after end v xs e
@@ -30,7 +30,7 @@ module _ {K : Type 0} (reads : List ℕ → Option (Result K ValueFault)) (same 
   pub values_fine : (n : ℕ) (vs : List K) (r end : Reader) (xs : List K) → values_taken reads same n vs r ≡ (Ok xs, end) → list_fault same xs ≡ None
   values_fine zero vs r end xs h = last_fine vs r end xs h
   values_fine (suc zero) vs r end xs h = last_fine vs r end xs h
-  values_fine (suc (suc n)) vs r end xs h = go (λ v after e. values_fine (suc n) (vs ++ v ∷ []) after end xs e) (lineTaken (value_reads reads) r) h
+  values_fine (suc (suc n)) vs r end xs h = go (λ v after e. values_fine (suc n) (vs ++ v ∷ []) after end xs e) (line_taken (value_reads reads) r) h
     where
       go : ((v : K) (after : Reader) → values_taken reads same (suc n) (vs ++ v ∷ []) after ≡ (Ok xs, end) → list_fault same xs ≡ None)
           → (p : Result K TextFault × Reader) → then p (λ v after. values_taken reads same (suc n) (vs ++ v ∷ []) after) ≡ (Ok xs, end) → list_fault same xs ≡ None

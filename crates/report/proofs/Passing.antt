@@ -6,7 +6,7 @@ use Rattle.std.proofs.lemmas.List.{drop_all, drop-drop, drop_at}
 use Rattle.std.proofs.lemmas.Bool.{ne_eqb}
 use Rattle.faults.specs.declared.causes.ValueFault.{ValueFault}
 use Rattle.cuts.proofs.Fields.{cut_back}
-use Rattle.report.specs.Texts.{bind, there, cut_at, Lacks, line_in, left, next, passed, ranged, skipped, lineTaken, TextFault, Missing, Form, Reader}
+use Rattle.report.specs.Texts.{bind, there, cut_at, Lacks, line_in, left, next, passed, ranged, skipped, line_taken, TextFault, Missing, Form, Reader}
 use Rattle.report.specs.Truth.{lines_in}
 
 module _ {X : Type 0} (f : List ℕ → Option (Result X ValueFault)) (r s : Reader) (e : TextFault) where
@@ -18,7 +18,7 @@ module _ {X : Type 0} (f : List ℕ → Option (Result X ValueFault)) (r s : Rea
   by_form after None h = ap (λ p. p.1) h
   by_form after (Some x) h = by_range after x h
 
-  pub refused_stays : (Err e, s) ≡ lineTaken f r → s ≡ r
+  pub refused_stays : (Err e, s) ≡ line_taken f r → s ≡ r
   refused_stays h = go (line_in (left r)) h
     where
       go : (o : Option (List ℕ × List ℕ)) → (Err e, s) ≡ there o (λ p. there (f p.0) (ranged r (passed r p.0)) (Err (Form r.line), r)) (Err (Missing r.line), r) → s ≡ r
@@ -42,7 +42,7 @@ module _ {X : Type 0} (f : List ℕ → Option (Result X ValueFault)) (r after :
   read_line p true h = read_form (passed r p.0) (f p.0) h
   read_line p false h = let never = ap (λ p. p.0) h in let z : ◌≡◌ {A = ℕ} 0 1 = cc in absurd (omega arith)
 
-  pub read_skips : (Ok x, after) ≡ lineTaken f r → after ≡ skipped r
+  pub read_skips : (Ok x, after) ≡ line_taken f r → after ≡ skipped r
   unfolding end
   read_skips h = go (cut_at 10 (left r)) h
     where

@@ -15,7 +15,7 @@ use Rattle.bench.specs.Views.{sender_of}
 use Rattle.lines.specs.declared.happenings.Happening.{Happening}
 use Rattle.lines.specs.declared.happenings.Happening.TheVariants.{Refused, Shot}
 use Rattle.lines.specs.declared.happenings.Report.{Report}
-use Rattle.report.specs.Texts.{act_reads, letter_byte, Act, Begin, Inject, Turn, Close, Injection, line_of, text_layer, text_number, left, skipped, lineTaken, TextFault, Reader}
+use Rattle.report.specs.Texts.{act_reads, letter_byte, Act, Begin, Inject, Turn, Close, Injection, line_of, text_layer, text_number, left, skipped, line_taken, TextFault, Reader}
 use Rattle.report.specs.declared.courses.Outcome.{Outcome}
 use Rattle.report.specs.declared.courses.Outcome.TheVariants.{Taken, Denied}
 
@@ -67,12 +67,12 @@ module _ {C K : Type 0} (account : Account C) (rules : Rules K) (reads : List �
   -- one line, from the reader and the bench before it to those after it, with the calls that it makes
   pub data Line (r : Reader) (v : View C) : Outcome → List (Event K) → Reader → View C → Type 0 where
     -- it cannot be read: it is told with the fault's own line, and skipped
-    unread : {e : TextFault} → lineTaken (act_reads reads) r ≡ (Err e, r) → Line r v (Denied (Refused (line_of e) (text_layer e) (text_number e))) [] (skipped r) v
+    unread : {e : TextFault} → line_taken (act_reads reads) r ≡ (Err e, r) → Line r v (Denied (Refused (line_of e) (text_layer e) (text_number e))) [] (skipped r) v
     -- the bench refuses the act, and stays as it is
-    denied : {a : Act K} {after : Reader} {e : BenchFault} → lineTaken (act_reads reads) r ≡ (Ok a, after) → fault_of account rules v (call_of a) ≡ Some e
+    denied : {a : Act K} {after : Reader} {e : BenchFault} → line_taken (act_reads reads) r ≡ (Ok a, after) → fault_of account rules v (call_of a) ≡ Some e
         → Line r v (Denied (Refused r.line (bench_layer e) (bench_number e))) (refused (call_of a) ∷ []) after v
     -- the bench takes the act
-    done : {a : Act K} {after : Reader} {w : View C} {h : Option Happening} → lineTaken (act_reads reads) r ≡ (Ok a, after)
+    done : {a : Act K} {after : Reader} {w : View C} {h : Option Happening} → line_taken (act_reads reads) r ≡ (Ok a, after)
         → fault_of account rules v (call_of a) ≡ None → Does account rules v (call_of a) w → Tells account v (call_of a) h
         → Line r v (Taken h) (taken (call_of a) ∷ []) after w
 

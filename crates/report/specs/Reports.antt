@@ -8,11 +8,11 @@ use Rattle.values.specs.Pulses.{same_pulses, pulse_charge}
 use Rattle.faults.specs.declared.causes.ValueFault.{ValueFault}
 use Rattle.groups.specs.Groups.{Lowest}
 use Rattle.carriage.specs.declared.meaning.Carriage.{Ghosts as Account}
-use Rattle.echo.specs.Echoes.{echo_account, state_of as echoState}
-use Rattle.echo.specs.State.{fresh_state as freshEcho}
+use Rattle.echo.specs.Echoes.{echo_account, state_of as echo_state}
+use Rattle.echo.specs.State.{fresh_state as fresh_echo}
 use Rattle.echo.specs.declared.carrier.Echo.{Echo as EchoCarriage}
-use Rattle.seal.specs.Seals.{seal_account, state_of as sealState}
-use Rattle.seal.specs.State.{fresh_state as freshSeal}
+use Rattle.seal.specs.Seals.{seal_account, state_of as seal_state}
+use Rattle.seal.specs.State.{fresh_state as fresh_seal}
 use Rattle.seal.specs.declared.sealing.Seal.{Seal as SealCarriage}
 use Rattle.agreement.specs.Law.{opened}
 use Rattle.agreement.specs.Views.{View, Rules, rules_of, model_of}
@@ -44,9 +44,9 @@ pub record Ran {C K : Type 0} (account : Account C) (rules : Rules K) (reads : L
 pub data Listed {K : Type 0} (reads : List ℕ → Option (Result K ValueFault)) (same : K → K → Bool) (charge : K → Option ℕ) (h : Header) (r : Reader) (p : Report) : Type 0 where
   unlisted : {e : TextFault} {after : Reader} → values_taken reads same h.count [] r ≡ (Err e, after) → Stopped e p → Listed reads same charge h r p
   echoed : {values : List K} {after : Reader} {c : EchoCarriage} → values_taken reads same h.count [] r ≡ (Ok values, after) → h.carriage ≡ Echo
-      → echoState c ≡ freshEcho h.group (length values) → Ran echo_account (rules_of same charge values) reads after c p → Listed reads same charge h r p
+      → echo_state c ≡ fresh_echo h.group (length values) → Ran echo_account (rules_of same charge values) reads after c p → Listed reads same charge h r p
   sealed : {values : List K} {after : Reader} {c : SealCarriage} → values_taken reads same h.count [] r ≡ (Ok values, after) → h.carriage ≡ Seal
-      → sealState c ≡ freshSeal h.group (length values) → Ran seal_account (rules_of same charge values) reads after c p → Listed reads same charge h r p
+      → seal_state c ≡ fresh_seal h.group (length values) → Ran seal_account (rules_of same charge values) reads after c p → Listed reads same charge h r p
 
 -- a whole text
 pub data Reported (text : Bor (List ℕ)) (p : Report) : Type 0 where

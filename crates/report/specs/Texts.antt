@@ -12,7 +12,7 @@ pub use Rattle.text_faults.specs.Faults.{line_of, text_layer, text_number}
 pub use Rattle.headers.specs.Headers.{head_of}
 pub use Rattle.reader.specs.Heads.{then, head_taken}
 pub use Rattle.reader.specs.Lines.{line_in}
-pub use Rattle.reader.specs.Reading.{left, next, passed, ranged, skipped, start, taken as lineTaken}
+pub use Rattle.reader.specs.Reading.{left, next, passed, ranged, skipped, start, taken as line_taken}
 pub use Rattle.text_faults.specs.declared.errors.ReadError.{ReadError}
 pub use Rattle.text_faults.specs.declared.errors.ReadError.TheVariants.{Fault}
 pub use Rattle.text_faults.specs.declared.texts.TextFault.{TextFault}

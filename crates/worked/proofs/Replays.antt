@@ -5,7 +5,7 @@ use Rattle.carriage.specs.declared.frames.Frame.{Frame}
 use Rattle.carriage.specs.declared.frames.Triple.{Triple}
 use Rattle.carriage.specs.declared.meaning.Carriage.{Ghosts as Account}
 use Rattle.echo.specs.Echoes.{echo_account, state_of, is_echo_letter, any_seal}
-use Rattle.echo.specs.State.{State, model_of as stateModel, start_state, offer_state, inject_state, turn_state}
+use Rattle.echo.specs.State.{State, model_of as state_model, start_state, offer_state, inject_state, turn_state}
 use Rattle.echo.specs.declared.carrier.Echo.{Echo}
 use Rattle.agreement.specs.Extraction.{first_sets, first_offers, sets_after, offers_after}
 use Rattle.agreement.specs.Refusals.{given}
@@ -16,13 +16,13 @@ use Rattle.agreement.specs.Views.{View, Rules}
 -- the carriage's account of its calls, of its state alone
 abbrev pub state_account : Account State
 state_account = record {
-  model = stateModel;
+  model = state_model;
   reads_letter = λ s f. is_echo_letter f;
   knows_seal = λ s f. any_seal f;
   starts = λ s z. z ≡ start_state s;
-  offers = λ s x z. (offer_fault (stateModel s) x ≡ None) × (z ≡ offer_state s x);
-  injects = λ s f z. (inject_fault (is_echo_letter f) (any_seal f) (stateModel s) f ≡ None) × (z ≡ inject_state s f);
-  turns = λ s z. (turn_fault (stateModel s) ≡ None) × (z ≡ turn_state s);
+  offers = λ s x z. (offer_fault (state_model s) x ≡ None) × (z ≡ offer_state s x);
+  injects = λ s f z. (inject_fault (is_echo_letter f) (any_seal f) (state_model s) f ≡ None) × (z ≡ inject_state s f);
+  turns = λ s z. (turn_fault (state_model s) ≡ None) × (z ≡ turn_state s);
 }
 
 abbrev pub image : View Echo → View State
@@ -41,10 +41,10 @@ after_inject f v = record { carriage = inject_state v.carriage f; running = v.ru
 
 abbrev pub after_turn : View State → View State
 after_turn v = record {
-  carriage = offer_all (turn_state v.carriage) (offers_after (stateModel (turn_state v.carriage)) v.sender v.extracted v.carriage.phase);
+  carriage = offer_all (turn_state v.carriage) (offers_after (state_model (turn_state v.carriage)) v.sender v.extracted v.carriage.phase);
   running = v.running;
   sender = v.sender;
-  extracted = sets_after (stateModel (turn_state v.carriage)) v.sender v.extracted v.carriage.phase;
+  extracted = sets_after (state_model (turn_state v.carriage)) v.sender v.extracted v.carriage.phase;
   tally = v.tally;
   closed = v.closed;
 }
@@ -65,8 +65,8 @@ pub turn_image : (v w : View Echo) → TurnTaken echo_account v w → image w �
 turn_image v w b =
     let turned : state_of b.turned ≡ turn_state (state_of v.carriage) = b.turns.1 in
     let k = (state_of v.carriage).phase in
-    let carried : state_of w.carriage ≡ (after_turn (image v)).carriage = offers_image b.offers ∙ ap (λ z. offer_all z (offers_after (stateModel z) v.sender v.extracted k)) turned in
-    let sets : w.extracted ≡ (after_turn (image v)).extracted = b.extracted ∙ ap (λ z. sets_after (stateModel z) v.sender v.extracted k) turned in
+    let carried : state_of w.carriage ≡ (after_turn (image v)).carriage = offers_image b.offers ∙ ap (λ z. offer_all z (offers_after (state_model z) v.sender v.extracted k)) turned in
+    let sets : w.extracted ≡ (after_turn (image v)).extracted = b.extracted ∙ ap (λ z. sets_after (state_model z) v.sender v.extracted k) turned in
     λ i. record { carriage = carried i; running = b.running i; sender = b.sender i; extracted = sets i; tally = b.tally i; closed = b.closed i }
 
 module _ {K : Type 0} (rules : Rules K) where

@@ -5,9 +5,9 @@ use Rattle.agreement.specs.Refusals.{open_fault}
 use Rattle.agreement.specs.Views.{rules_of}
 use Rattle.bench.proofs.Chains.{no_refusal}
 use Rattle.echo.specs.Echoes.{echo_account, echo_model}
-use Rattle.echo.specs.State.{fresh_state as freshEcho}
+use Rattle.echo.specs.State.{fresh_state as fresh_echo}
 use Rattle.seal.specs.Seals.{seal_account, seal_model}
-use Rattle.seal.specs.State.{fresh_state as freshSeal}
+use Rattle.seal.specs.State.{fresh_state as fresh_seal}
 use Rattle.report.specs.Reports.{unlisted, echoed, sealed, Ran}
 use Rattle.report.specs.Texts.{Faulted, values_taken, ReadError}
 use Rattle.report.proofs.Listing.{values_fine, fine_length, opens}
@@ -46,7 +46,7 @@ run_bench-requires g c =
 pub returns-in-Echo : goal.returns-in-Echo
 returns-in-Echo g c =
     let here = (at-returns-in-Echo g c).After-len-len in
-    let fresh = c.in-Ok-new.ensures.value ∙ ap (freshEcho c.args.header.now.group) (len g here) in
+    let fresh = c.in-Ok-new.ensures.value ∙ ap (fresh_echo c.args.header.now.group) (len g here) in
     IfOk-weaker c.run_bench.result _ _
     (λ p ran. echoed c.in-Ok.ensures c.in-Echo.is fresh
     (subst (λ (xs : List g.row.K.Denot). Ran echo_account (rules_of g.K.Kind.same g.K.Kind.charge xs) g.K.Written.reads c.values.new.self c.in-Ok-new.carriage p) c.deref.ensures.value ran))
@@ -65,7 +65,7 @@ run_bench-requires-in-Seal g c =
 pub returns : goal.returns
 returns g c =
     let here = (at-returns g c).After-len-len in
-    let fresh = c.in-Ok-new-2.ensures.value ∙ ap (freshSeal c.args.header.now.group) (len g here) in
+    let fresh = c.in-Ok-new-2.ensures.value ∙ ap (fresh_seal c.args.header.now.group) (len g here) in
     IfOk-weaker c.run_bench-in-Seal.result _ _
     (λ p ran. sealed c.in-Ok.ensures c.in-Seal.is fresh
     (subst (λ (xs : List g.row.K.Denot). Ran seal_account (rules_of g.K.Kind.same g.K.Kind.charge xs) g.K.Written.reads c.values.new.self c.in-Ok-new-2.carriage p) c.deref-in-Seal.ensures.value ran))
