@@ -6,5 +6,7 @@ mod frames;
 mod meaning;
 
 pub use checks::{check_ends, check_offer, check_read, relay_holds};
+pub use faults::{CarriageFault, GroupFault};
 pub use frames::{Frame, Triple};
+pub use groups::{Group, Marks};
 pub use meaning::Carriage;

@@ -5,6 +5,7 @@ mod kinds;
 mod notices;
 mod pulses;
 
+pub use faults::{Fault, Layer, ListFault, ValueFault};
 pub use kinds::Kind;
 pub use notices::{Notice, Outcome};
 pub use pulses::PulseReport;

@@ -1,6 +1,6 @@
 // Notices as a kind of value: the same when letter and block agree; F charges its block, P charges none.
 ghost use Rattle.values.specs.Notices.{same_notice, notice_charge};
-ghost use Rattle.std.proofs.Common.{rules, arith};
+ghost use Rattle.std.proofs.Common.{rules};
 
 use super::Notice;
 use crate::kinds::Kind;
@@ -10,15 +10,15 @@ impl Kind for Notice {
 
     ghost charge = { notice_charge };
 
-    ghost reflexive = { first_of (Prim.search rules, Prim.grind (arith, Self.row.coded.inj)) };
+    ghost reflexive = { Prim.search rules };
 
-    ghost symmetric = { first_of (Prim.search rules, Prim.grind (arith, Self.row.coded.inj)) };
+    ghost symmetric = { Prim.search rules };
 
-    ghost transitive = { first_of (Prim.search rules, Prim.grind (arith, Self.row.coded.inj)) };
+    ghost transitive = { Prim.search rules };
 
-    ghost charges_alike = { first_of (Prim.search rules, Prim.grind (arith, Self.row.coded.inj)) };
+    ghost charges_alike = { Prim.search rules };
 
-    ghost small = { first_of (Prim.search rules, Prim.grind (arith, Self.row.coded.inj)) };
+    ghost small = { Prim.search rules };
 
     fn is_same(&self, other: &Notice) -> bool {
         self.letter == other.letter && self.block == other.block

@@ -1,6 +1,6 @@
 // Pulse reports as a kind of value: the same when both numbers agree; 8 pulses charge the block, fewer charge none.
 ghost use Rattle.values.specs.Pulses.{same_pulses, pulse_charge};
-ghost use Rattle.std.proofs.Common.{rules, arith};
+ghost use Rattle.std.proofs.Common.{rules};
 
 use super::PulseReport;
 use crate::kinds::Kind;
@@ -10,15 +10,15 @@ impl Kind for PulseReport {
 
     ghost charge = { pulse_charge };
 
-    ghost reflexive = { first_of (Prim.search rules, Prim.grind (arith, Self.row.coded.inj)) };
+    ghost reflexive = { Prim.search rules };
 
-    ghost symmetric = { first_of (Prim.search rules, Prim.grind (arith, Self.row.coded.inj)) };
+    ghost symmetric = { Prim.search rules };
 
-    ghost transitive = { first_of (Prim.search rules, Prim.grind (arith, Self.row.coded.inj)) };
+    ghost transitive = { Prim.search rules };
 
-    ghost charges_alike = { first_of (Prim.search rules, Prim.grind (arith, Self.row.coded.inj)) };
+    ghost charges_alike = { Prim.search rules };
 
-    ghost small = { first_of (Prim.search rules, Prim.grind (arith, Self.row.coded.inj)) };
+    ghost small = { Prim.search rules };
 
     fn is_same(&self, other: &PulseReport) -> bool {
         self.block == other.block && self.pulses == other.pulses
