@@ -3,7 +3,7 @@
 
 usage: tools/spell_names.py [FOLDER]      (a repository, once, after port.py; without FOLDER this one)
 
-A name is taken where it is declared, in specs/ or proofs/ of any crate. Names of goals keep their dashes, since the check makes them.
+A name is taken where it is declared, in specs/ or proofs/ of any crate, or given by an import. Names of goals keep their dashes, since the check makes them.
 A name that would meet another in some file stays, and a line 'left:' says so. Comments, strings and the functions of src/ are not touched.
 """
 
@@ -57,6 +57,12 @@ def respelled(name, is_fact):
     return "".join(w[:1].upper() + w[1:] for w in words.split("_")) if is_fact else words
 
 
+def import_names(text):
+    """Names that imports give in mixed case, as `state_of as echoState`."""
+    for line in re.findall(r"(?m)^\s*(?:ghost )?use [^\n]*", text):
+        yield from re.findall(r"\bas ([a-z]\w*[A-Z]\w*)", line)
+
+
 def declarations(path, text):
     """Names declared in a file of specs/ or proofs/, each with whether it is a fact."""
     is_answer = os.path.basename(path) in ("Answers.antt", "Invariants.antt", "Choices.antt")
@@ -86,6 +92,7 @@ def main(root):
     files = dict(texts(root))
     facts, names = set(), set()
     for path, text in files.items():
+        names.update(import_names(text))
         if path.endswith(".antt"):
             for name, is_fact in declarations(path, text):
                 names.add(name)
