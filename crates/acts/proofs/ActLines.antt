@@ -4,12 +4,12 @@ use Rattle.std.specs.Str.{bytes_eq}
 use Rattle.std.proofs.lemmas.Slice.Eq.{bytes_eq-Decides}
 use Rattle.std.proofs.lemmas.Bool.{cond-false, eqb-true}
 use Rattle.faults.specs.declared.causes.ValueFault.{ValueFault}
-use Rattle.cuts.specs.Cuts.{bind, decode, field_number, field_letter, Lacks, keyed}
+use Rattle.cuts.specs.Cuts.{bind, there, cut_at, decode, field_number, field_letter, Lacks, keyed}
 use Rattle.acts.specs.Acts.{letter_byte, letter_by, inject_line, inject_reads, InjectFits, value_field, line_of_act, begins_by, begin_reads, act_reads, ValueFits, ActFits}
 use Rattle.acts.specs.declared.Act.{Act}
 use Rattle.acts.specs.declared.Act.TheVariants.{Begin, Inject, Turn, Close}
-use Rattle.acts.specs.declared.Letter.{Letter}
-use Rattle.acts.specs.declared.Letter.TheVariants.{Init, Echo, Seal}
+use Rattle.acts.specs.declared.letters.Letter.{Letter}
+use Rattle.acts.specs.declared.letters.Letter.TheVariants.{Init, Echo, Seal}
 use Rattle.acts.specs.declared.Injection.{Injection}
 use Rattle.cuts.proofs.Decimal.{decode_back, decode_forth}
 use Rattle.cuts.proofs.Fields.{bind_back, bind_forth, there_back, keyed_back, number_field_back, number_field_forth, letter_field_back, letter_field_forth, lacks_append, lacks_by, lacks_decimal, length_number}
@@ -134,6 +134,20 @@ module _ {K : Type 0} (shows : K → List ℕ) (reads : List ℕ → Option (Res
     act_forth (Inject x) f = bind_forth _ (inject_forth x f)
     act_forth (Turn p) f = bind_forth _ (decode_forth p f)
     act_forth (Close s) f = bind_forth _ (decode_forth s f)
+
+-- the act of a line by the key before its equals sign
+module _ {K : Type 0} (reads : List ℕ → Option (Result K ValueFault)) where
+  act_by : Option (List ℕ × List ℕ) → Option (Result (Act K) ValueFault)
+  act_by o =
+      let body : List ℕ → Option (List ℕ) = λ key. bind o (λ p. cond (bytes_eq p.0 key) (Some p.1) None) in
+      there (body (codes "begin")) (begin_reads reads)
+      (there (body (codes "inject")) (λ b. bind (inject_reads b) (λ x. Some (Ok (Inject x))))
+      (there (body (codes "turn")) (λ b. bind (decode b) (λ n. Some (Ok (Turn n))))
+      (there (body (codes "close")) (λ b. bind (decode b) (λ n. Some (Ok (Close n)))) None)))
+
+  pub act_injects : (s b : List ℕ) (x : Injection) → cut_at 61 s ≡ Some (codes "inject", b) → inject_reads b ≡ Some x → act_reads reads s ≡ Some (Ok (Inject x))
+  unfolding act_by
+  act_injects s b x e h = ap act_by e ∙ bind_forth (λ x. Some (Ok (Inject x))) h
 
 -- the line of an act has no line feed and is short
 lacks_inject : (x : Injection) → InjectFits x → Lacks 10 (inject_line x)

@@ -1,23 +1,15 @@
 -- The lines of a campaign's acts, without their line feed, and what a line is read as:
 --   begin=SENDER,VALUE or begin=SENDER,-   inject=FROM,TO,LETTER,ORIGIN,ROUND,PLACE   turn=PHASE   close=SHOT
 -- with the letter i, e or s. A line is read as nothing where it has none of these forms. Assumes nothing.
-use Rattle.std.specs.Prelude.{ℕ, ◌<◌, cond, List, [], ◌∷◌, ◌++◌, Some, None, Ok, Err, codes, decimal, Option, Result, ◌==◌}
+use Rattle.std.specs.Prelude.{◌≡◌, ℕ, ◌<◌, cond, List, [], ◌∷◌, ◌++◌, Some, None, Ok, Err, codes, decimal, Option, Result}
 use Rattle.std.specs.Str.{bytes_eq}
 use Rattle.faults.specs.declared.causes.ValueFault.{ValueFault}
+use Rattle.carriage.specs.declared.frames.Frame.{Frame}
 use Rattle.cuts.specs.Cuts.{bind, decode, field_number, field_letter, keyed, there}
 use Rattle.acts.specs.declared.Act.{Act}
 use Rattle.acts.specs.declared.Act.TheVariants.{Begin, Inject, Turn, Close}
-use Rattle.acts.specs.declared.Letter.{Letter}
-use Rattle.acts.specs.declared.Letter.TheVariants.{Init, Echo, Seal}
+pub use Rattle.acts.specs.Letters.{letter_byte, letter_by}
 use Rattle.acts.specs.declared.Injection.{Injection}
-
-abbrev pub letter_byte : Letter → ℕ
-letter_byte Init = 105
-letter_byte Echo = 101
-letter_byte Seal = 115
-
-abbrev pub letter_by : ℕ → Option Letter
-letter_by c = cond (c == 105) (Some Init) (cond (c == 101) (Some Echo) (cond (c == 115) (Some Seal) None))
 
 abbrev pub inject_line : Injection → List ℕ
 inject_line x = codes "inject=" ++ (decimal x.from ++ 44 ∷ (decimal x.to ++ 44 ∷ (letter_byte x.letter ∷ 44 ∷ (decimal x.triple.origin ++ 44 ∷ (decimal x.triple.round ++ 44 ∷ decimal x.triple.place)))))
@@ -27,6 +19,10 @@ inject_reads s =
     bind (field_number s) (λ a. bind (field_number a.1) (λ b. bind (field_letter b.1) (λ c. bind (letter_by c.0) (λ l.
     bind (field_number c.1) (λ d. bind (field_number d.1) (λ e. bind (decode e.1) (λ p.
     Some (record { from = a.0; to = b.0; letter = l; triple = record { origin = d.0; place = p; round = e.0 } }))))))))
+
+-- the frame that is injected
+abbrev pub IsFrameOf : Injection → Frame → Type 0
+IsFrameOf x f = (f.from ≡ x.from) × (f.to ≡ x.to) × (f.letter ≡ letter_byte x.letter) × (f.triple ≡ x.triple)
 
 -- every number is one that the format can write
 abbrev pub InjectFits : Injection → Type 0

@@ -1,4 +1,4 @@
--- Verdicts of sets of places: of equal sets, of a set of one place, of an empty set. Assumes nothing.
+-- Verdicts of sets of places: of equal sets, of a set of one place, of an empty one, of two places. Assumes nothing.
 use Rattle.std.proofs.Common.{◌≡◌, ℕ, zero, suc, ◌+◌, ◌<◌, ◌≤◌, Bool, true, false, cond, eqb, sym, refl, ap, ◌∙◌, ⊎_elim, arith}
 use Rattle.std.proofs.lemmas.Bool.{cases_Bool, cond-true, cond-false, both_ways, eq-eqb, ne_eqb, eqb-true, cases_lt, cases_eq, eqb-false}
 use Rattle.sets.specs.Sets.{count}
@@ -50,6 +50,12 @@ verdict_one n p x l e h =
 
 pub verdict_none : (n : ℕ) (p : ℕ → Bool) → ((k : ℕ) → k < n → p k ≡ false) → verdict_of n p ≡ SenderFaulty
 verdict_none n p h = let z : count n p ≡ 0 = count_empty n p h in cond-false (eqb (count n p) 1) _ _ (ne_eqb (count n p) 1 (λ e. omega arith))
+
+pub verdict_two : (n : ℕ) (p : ℕ → Bool) (x y : ℕ) → x < n → y < n → (x ≡ y → ⊥) → p x ≡ true → p y ≡ true → verdict_of n p ≡ SenderFaulty
+verdict_two n p x y xl yl other xe ye =
+    let more = count_strict n (λ j. eqb j x) p (λ j m h. ap p (eqb-true j x h) ∙ xe) y yl (ne_eqb y x (λ h. other (sym h))) ye in
+    let some = count_some n (λ j. eqb j x) x xl (eq-eqb x x refl) in
+    cond-false (eqb (count n p) 1) _ _ (ne_eqb (count n p) 1 (λ e. omega (arith, more, some)))
 
 highest_in : (n : ℕ) (p : ℕ → Bool) → 0 < count n p → (highest n p < n) × (p (highest n p) ≡ true)
 unfolding count highest

@@ -4,6 +4,7 @@ ghost use Rattle.agreement.specs.declared.bench_faults.BenchFault.TheVariants.{V
 ghost use Rattle.std.specs.Prelude.{◌≡◌, Some};
 
 use faults::{CarriageFault, Fault, Layer, ListFault, ValueFault};
+use std::error::Error;
 use std::fmt;
 
 // Why a bench refuses a call.
@@ -23,6 +24,8 @@ impl Fault for BenchFault {
     ghost numbered = { bench_number };
 
     ghost layered = { bench_layer };
+
+    ghost worded = { bench_words };
 
     fn number(&self) -> u16 {
         match self {
@@ -45,13 +48,8 @@ impl Fault for BenchFault {
             _ => Layer::Bench,
         }
     }
-}
 
-impl BenchFault {
-    // The cause in words.
-    pub fn words(&self) -> &'static str
-        ensures { result.now ≡ bench_words self.now }
-    {
+    fn words(&self) -> &'static str {
         match self {
             BenchFault::Moment => "act, phase or shot not of this moment",
             BenchFault::Sender => "sender not a controller of the group",
@@ -72,6 +70,8 @@ impl fmt::Display for BenchFault {
         f.write_str(self.words())
     }
 }
+
+impl Error for BenchFault {}
 
 impl From<ValueFault> for BenchFault {
     ghost from_gives = { λ e r. r ≡ Value e };

@@ -1,5 +1,7 @@
 -- Offers that cannot be refused, one after the other. Assumes nothing.
-use Rattle.std.proofs.Common.{◌≡◌, ℕ, ◌+◌, ◌*◌, ◌<◌, ◌≤◌, Bool, true, false, cond, ◌&&◌, eqb, ltb, List, [], ◌∷◌, ◌++◌, Some, None, Option, sym, ap, ◌∙◌, subst, add-one, arith}
+use Rattle.std.proofs.Common.{◌≡◌, ℕ, ◌+◌, ◌*◌, ◌<◌, ◌≤◌, Bool, true, false, cond, ◌&&◌, eqb, ltb, List, [], ◌∷◌, ◌++◌, Some, None, Ok, Err, IsOk, Option, Result, refl, sym, ap, ◌∙◌, subst, add-one, arith}
+use Rattle.std.specs.Result.{result_err}
+use Rattle.std.proofs.lemmas.Option.{none-some}
 use Rattle.std.proofs.lemmas.Bool.{cond-true, and_from, and_parts, lt-ltb, le-leb, eq-eqb}
 use Rattle.groups.specs.Groups.{correct}
 use Rattle.carriage.specs.Model.{Model, is_correct, knows, offer_fault, after_offer}
@@ -64,6 +66,11 @@ module _ {C : Type 0} (account : Account C) where
       → (test : ℕ → ℕ → Bool) (i : ℕ) → Offerable (account.model c) test i → Offerable (account.model d) test i
   still_can one {c} {d} {xs} o test i can = offerable_still (account.model c) (account.model d) xs test i (chain_offers account one o) can
 
--- an offer that has no fault was not refused
+-- a call that has no fault was taken
+pub taken : {T E : Type 0} (r : Result T E) (o : Option E) → result_err r ≡ o → o ≡ None → IsOk r
+taken (Ok x) o a b = refl
+taken (Err e) o a b = absurd (none-some e (sym (a ∙ b)))
+
+-- the same of a fault that was met
 pub no_refusal : {T : Type 0} (e : T) (o : Option T) → Some e ≡ o → o ≡ None → ⊥
-no_refusal e o a b = let z : ◌≡◌ {A = ℕ} 0 1 = cc in omega arith
+no_refusal e o a b = none-some e (sym (a ∙ b))

@@ -1,20 +1,13 @@
--- Charges: that blocks are small, and a walk in which one controller after the other charges. Assumes nothing.
-use Rattle.std.proofs.Common.{◌≡◌, ℕ, ◌+◌, ◌<◌, Bool, true, false, cond, ◌&&◌, eqb, ltb, IfSome, Some, None, Option, sym, refl, ap, ◌∙◌, ⊎_elim, arith}
+-- A walk in which one controller after the other charges. Assumes nothing.
+use Rattle.std.proofs.Common.{◌≡◌, ℕ, ◌+◌, Bool, true, false, cond, ◌&&◌, eqb, ltb, sym, refl, ap, ◌∙◌, ⊎_elim, arith}
 use Rattle.std.proofs.lemmas.Bool.{cases_eq, cases_lt, lt-ltb, le-ltb, eq-eqb, ne_eqb}
 use Rattle.agreement.specs.Steps.{raised}
-
-pub small_block : {K : Type 0} (charge : K → Option ℕ) → ((x : K) (b : ℕ) → charge x ≡ Some b → b < 64) → (x : K) (o : Option ℕ) → o ≡ charge x → IfSome o (λ b. b < 64)
-small_block charge small x None e = tt
-small_block charge small x (Some b) e = small x b (sym e)
 
 -- the tally of a controller p, which was e, once those below q have charged
 abbrev pub charged_below : (test : ℕ → Bool) (q p e : ℕ) → ℕ
 charged_below test q p e = cond (ltb p q && test p) (raised e) e
 
 module _ (test : ℕ → Bool) (p e : ℕ) where
-  pub charged_none : e ≡ charged_below test 0 p e
-  charged_none = ap (λ b. cond (b && test p) (raised e) e) (sym (le-ltb p 0 (omega arith)))
-
   pub charged_more : (q now after : ℕ) (b : Bool) → test q ≡ b → now ≡ charged_below test q p e → after ≡ cond (eqb p q && b) (raised now) now → after ≡ charged_below test (q + 1) p e
   charged_more q now after b t n a = ⊎_elim mine other (cases_eq p q)
     where
@@ -29,17 +22,6 @@ module _ (test : ℕ → Bool) (p e : ℕ) where
 
       other : (p ≡ q → ⊥) → after ≡ charged_below test (q + 1) p e
       other ne = a ∙ ap (λ x. cond (x && b) (raised now) now) (ne_eqb p q ne) ∙ n ∙ ap (λ x. cond (x && test p) (raised e) e) (beyond ne)
-
-  pub charged_all : (q : ℕ) → (test p ≡ true → p < q) → charged_below test q p e ≡ cond (test p) (raised e) e
-  charged_all q below = go (test p) refl
-    where
-      go : (b : Bool) → test p ≡ b → cond (ltb p q && b) (raised e) e ≡ cond b (raised e) e
-      go true f = ap (λ x. cond (x && true) (raised e) e) (lt-ltb p q (below f))
-      go false f = ap (λ x. cond x (raised e) e) (and_false (ltb p q))
-        where
-          and_false : (x : Bool) → (x && false) ≡ false
-          and_false true = refl
-          and_false false = refl
 
 -- a charge of no block is none
 pub none_charged : (x : Bool) (n : ℕ) → n ≡ cond (x && false) (raised n) n

@@ -1,7 +1,9 @@
 pub mod Filled
-pub mod Walks
+pub mod Vouched
 pub mod Chains
 pub mod Charges
-pub mod Unions
+pub mod Searching
 pub mod Refusing
 pub mod Turning
+pub mod Single
+pub mod Unions

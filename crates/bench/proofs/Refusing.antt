@@ -1,6 +1,6 @@
 -- The first of several causes, and what a `?` hands on. Assumes nothing.
-use Rattle.std.proofs.Common.{◌≡◌, is_some, IsErrAnd, Some, None, Err, Option, Result, sym, refl, ap, ◌∙◌}
-use Rattle.std.specs.Option.{option_map, option_or}
+use Rattle.std.proofs.Common.{◌≡◌, IsErrAnd, Some, None, Err, Option, Result, sym, ap, ◌∙◌}
+use Rattle.std.specs.Option.{option_or}
 use Rattle.std.proofs.lemmas.Result.{err_from_is_err_and}
 
 -- this cause is met
@@ -14,15 +14,6 @@ past a b h = ap (λ o. option_or o b) h
 -- what a `?` hands on is the fault that it found
 pub handed : {T E : Type 0} (r : Result T E) (e : E) → IsErrAnd r (λ y. y ≡ e) → r ≡ Err e
 handed r e h = let p = err_from_is_err_and r h in p.1 ∙ ap Err p.2
-
-pub some_mapped : {T U : Type 0} (f : T → U) (o : Option T) → is_some o ≡ is_some (option_map f o)
-some_mapped f None = refl
-some_mapped f (Some x) = refl
-
--- a third cause, looked at last, changes no fault of the first two
-pub widen : {T : Type 0} (a b c : Option T) (e : T) → Some e ≡ option_or a b → Some e ≡ option_or a (option_or b c)
-widen None b c e h = hit b c e h
-widen (Some x) b c e h = h
 
 -- a cause that is not met is left out
 pub without : {T : Type 0} (a b o : Option T) → None ≡ a → o ≡ option_or a b → o ≡ b

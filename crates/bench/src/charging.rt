@@ -1,5 +1,5 @@
 // Charging: what a close does to the registers.
-ghost use Rattle.std.specs.Prelude.{◌≡◌, ℕ, ◌<◌, ◌≤◌, ◌&&◌, length, IfSome, if◌then◌else◌, nat_eq};
+ghost use Rattle.std.specs.Prelude.{◌≡◌, ℕ, ◌<◌, ◌≤◌, ◌&&◌, length, if◌then◌else◌, nat_eq};
 ghost use Rattle.agreement.specs.Extraction.{verdict_of};
 ghost use Rattle.agreement.specs.Steps.{block_of, charges, raised};
 ghost use Rattle.agreement.specs.Views.{rules_of};
@@ -10,20 +10,16 @@ use crate::places::Extracted;
 use crate::tallies::Registers;
 use agreement::Verdict;
 use groups::Group;
-use values::Kind;
+use values::{Block, Kind};
 
 // The block that a verdict charges: that of the value at its place.
-fn block_of<K: Kind>(list: &[K], verdict: Verdict) -> Option<u16>
-    ensures is { result ≡ block_of (rules_of K.Kind.same K.Kind.charge list.now) verdict }
-    ensures small { IfSome result (λ b. b < 64) }
+fn block_of<K: Kind>(list: &[K], verdict: Verdict) -> Option<Block>
+    ensures { result ≡ block_of (rules_of K.Kind.same K.Kind.charge list.now) verdict }
 {
-    let Verdict::Place(p) = verdict else {
-        return None;
-    };
-    if p as usize >= list.len() {
-        return None;
+    match verdict {
+        Verdict::Place(p) => list.get(p as usize).and_then(|value| value.charged_block()),
+        Verdict::SenderFaulty => None,
     }
-    list[p as usize].charged_block()
 }
 
 // Controller q charges the block of its verdict in its own register.
@@ -48,6 +44,7 @@ pub(crate) fn charge_all<K: Kind>(
 {
     let len = list.len() as u16;
     let n = group.n();
+    // a loop, since each charge writes a register
     for q in 0..n {
         if group.is_correct(q) {
             let verdict = extracted.verdict(q, len);

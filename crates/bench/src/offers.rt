@@ -1,4 +1,5 @@
-// What a bench offers on its carriage. The carriage cannot refuse these offers.
+// What a bench offers on its carriage. The carriage cannot refuse these offers. They change it, so they stand in loops; a
+// struct for (carriage, news, round) would be no plainer, since each of its methods would owe that news and round stay.
 ghost use Rattle.std.specs.Prelude.{◌+◌, ◌≤◌};
 ghost use Rattle.agreement.specs.Extraction.{place_offers, group_offers};
 ghost use Rattle.agreement.specs.Steps.{Offered};
@@ -20,9 +21,7 @@ pub(crate) fn start_shot<C: Carriage>(carriage: &mut C, sender: u16, place: Opti
             place: v,
             round: 1,
         };
-        let Ok(()) = carriage.offer(x) else {
-            unreachable()
-        };
+        carriage.offer(x).unwrap();
     }
 }
 
@@ -38,9 +37,7 @@ fn offer_places<C: Carriage>(carriage: &mut C, news: &Extracted, round: u16, q: 
                 place: v,
                 round,
             };
-            let Ok(()) = carriage.offer(x) else {
-                unreachable()
-            };
+            carriage.offer(x).unwrap();
         }
     }
 }

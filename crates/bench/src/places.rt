@@ -1,21 +1,70 @@
 // The extracted sets of all controllers: which places of the list each of them has extracted.
-ghost use Rattle.std.specs.Prelude.{◌≡◌, ℕ, ◌<◌, false, ◌&&◌, ◌||◌, ◌==◌};
+ghost use Rattle.std.specs.Prelude.{◌≡◌, ℕ, ◌<◌, false, ◌&&◌, ◌||◌, if◌then◌else◌, ◌==◌};
 ghost use Rattle.agreement.specs.Extraction.{first_sets, verdict_of};
-ghost use Rattle.bench.specs.Tables.{in_set, Placed};
+ghost use Rattle.bench.specs.Tables.{holds, in_set, Placed};
 
 use agreement::Verdict;
 
-// Four places for each of sixteen controllers.
+// The places that one controller has extracted.
+#[derive(Clone, Copy)]
+pub struct PlaceSet {
+    places: [bool; 4],
+}
+
+impl PlaceSet {
+    pub(crate) fn empty() -> PlaceSet
+        ensures { (v : ℕ) → holds result v ≡ false }
+    {
+        PlaceSet { places: [false; 4] }
+    }
+
+    pub(crate) fn contains(&self, v: u16) -> bool
+        ensures { result ≡ holds self.now v }
+    {
+        self.places.get(v as usize).is_some_and(|held| *held)
+    }
+
+    pub(crate) fn insert(&mut self, v: u16)
+        requires { v < 4 }
+        ensures { (w : ℕ) → holds self.new w ≡ (w == v || holds self.old w) }
+    {
+        self.places[v as usize] = true;
+    }
+
+    // Adds what `other` has. By index, since the check does not know what is written through `iter_mut().zip(..)`.
+    fn add(&mut self, other: &PlaceSet)
+        ensures { (v : ℕ) → holds self.new v ≡ (holds self.old v || holds other.now v) }
+    {
+        for (v, held) in self.places.iter_mut().enumerate() {
+            *held |= other.places[v];
+        }
+    }
+
+    // The one place below `len`, or sender faulty if there is none or several.
+    fn verdict(&self, len: u16) -> Verdict
+        ensures { result ≡ verdict_of len (holds self.now) }
+    {
+        let mut held = (0..len).filter(|v| self.contains(*v));
+        match (held.next(), held.next()) {
+            (Some(place), None) => Verdict::Place(place),
+            _ => Verdict::SenderFaulty,
+        }
+    }
+}
+
+// The places of each of sixteen controllers.
 #[derive(Clone, Copy)]
 pub struct Extracted {
-    cells: [bool; 64],
+    rows: [PlaceSet; 16],
 }
 
 impl Extracted {
     pub(crate) fn empty() -> Extracted
         ensures { (q v : ℕ) → in_set result q v ≡ false }
     {
-        Extracted { cells: [false; 64] }
+        Extracted {
+            rows: [PlaceSet::empty(); 16],
+        }
     }
 
     // The sender's own value, if there is one, and nothing else.
@@ -25,7 +74,7 @@ impl Extracted {
     {
         let mut sets = Extracted::empty();
         if let Some(v) = place {
-            sets.insert(sender, v);
+            sets.rows[sender as usize].insert(v);
         }
         sets
     }
@@ -33,24 +82,23 @@ impl Extracted {
     pub(crate) fn contains(&self, q: u16, v: u16) -> bool
         ensures { result ≡ in_set self.now q v }
     {
-        q < 16 && v < 4 && self.cells[4 * q as usize + v as usize]
+        self.rows.get(q as usize).is_some_and(|row| row.contains(v))
     }
 
-    pub(crate) fn insert(&mut self, q: u16, v: u16)
-        requires { (q < 16) × (v < 4) }
-        ensures { (p w : ℕ) → in_set self.new p w ≡ ((p == q && w == v) || in_set self.old p w) }
+    // Puts a set in the place of controller q's.
+    pub(crate) fn set(&mut self, q: u16, row: PlaceSet)
+        requires { q < 16 }
+        ensures { (p v : ℕ) → in_set self.new p v ≡ (if p == q then holds row v else in_set self.old p v) }
     {
-        self.cells[4 * q as usize + v as usize] = true;
+        self.rows[q as usize] = row;
     }
 
     // Adds to every set what `other` has for it.
     pub(crate) fn add(&mut self, other: &Extracted)
         ensures { (q v : ℕ) → in_set self.new q v ≡ (in_set self.old q v || in_set other.now q v) }
     {
-        for i in 0..64 {
-            if other.cells[i] {
-                self.cells[i] = true;
-            }
+        for (q, row) in self.rows.iter_mut().enumerate() {
+            row.add(&other.rows[q]);
         }
     }
 
@@ -58,18 +106,9 @@ impl Extracted {
     pub(crate) fn verdict(&self, q: u16, len: u16) -> Verdict
         ensures { result ≡ verdict_of len (in_set self.now q) }
     {
-        let mut found: u16 = 0;
-        let mut last: u16 = 0;
-        for v in 0..len {
-            if self.contains(q, v) {
-                found += 1;
-                last = v;
-            }
-        }
-        if found == 1 {
-            Verdict::Place(last)
-        } else {
-            Verdict::SenderFaulty
+        match self.rows.get(q as usize) {
+            Some(row) => row.verdict(len),
+            None => Verdict::SenderFaulty,
         }
     }
 }

@@ -1,111 +1,93 @@
 // What correct controllers extract after a round, by what they hold. None of it asks who is marked.
-ghost use Rattle.std.specs.Prelude.{◌≡◌, ℕ, ◌<◌, ◌&&◌, ◌||◌, ◌==◌};
+ghost use Rattle.std.specs.Prelude.{◌≡◌, ℕ, ◌<◌};
 ghost use Rattle.agreement.specs.Extraction.{vouched, origins, extracts, is_new_to};
-ghost use Rattle.bench.specs.Tables.{in_set};
+ghost use Rattle.bench.specs.Tables.{holds, in_set};
 
-use crate::places::Extracted;
+use crate::places::{Extracted, PlaceSet};
 use carriage::{Carriage, Triple};
 
-// Whether q has accepted the triple. Only a correct controller has accepted anything, and only triples in range.
-fn has_accepted<C: Carriage>(carriage: &C, q: u16, x: Triple) -> bool
-    ensures { result ≡ (C.Carriage.model carriage.now).accepted q x }
-{
-    match carriage.held(q, x) {
-        Ok(holds) => holds,
-        Err(_) => false,
-    }
+// A round that was just turned on this carriage, in a shot of this sender, and what controllers had extracted before.
+#[derive(Drop)]
+pub(crate) struct Round<'a, C> {
+    pub(crate) carriage: &'a C,
+    pub(crate) sender: u16,
+    pub(crate) before: &'a Extracted,
+    pub(crate) number: u16,
+    ghost short: { number < 65535 },
 }
 
-// Whether q has accepted a triple of origin p with this place, in one of the first rounds.
-fn has_vouched<C: Carriage>(carriage: &C, q: u16, v: u16, rounds: u16, p: u16) -> bool
-    ensures { result ≡ vouched (C.Carriage.model carriage.now) q v rounds p }
-{
-    for j in 0..rounds {
-        let x = Triple {
-            origin: p,
+impl<C: Carriage> Round<'_, C> {
+    // Whether q has accepted the triple. Only a correct controller has accepted anything, and only triples in range.
+    fn has_accepted(&self, q: u16, x: Triple) -> bool
+        ensures { result ≡ (C.Carriage.model self.now.carriage.now).accepted q x }
+    {
+        self.carriage.held(q, x).unwrap_or(false)
+    }
+
+    // Whether q has accepted a triple of origin p with this place, in this round or an earlier one.
+    fn has_vouched(&self, q: u16, v: u16, p: u16) -> bool
+        ensures { result ≡ vouched (C.Carriage.model self.now.carriage.now) q v self.now.number p }
+    {
+        (1..self.number + 1).any(|round| {
+            let x = Triple {
+                origin: p,
+                place: v,
+                round,
+            };
+            self.has_accepted(q, x)
+        })
+    }
+
+    // From how many different origins q has accepted such a triple.
+    fn origin_count(&self, q: u16, v: u16) -> usize
+        ensures { result ≡ origins (C.Carriage.model self.now.carriage.now) q v self.now.number }
+    {
+        let n = self.carriage.group().n();
+        (0..n).filter(|p| self.has_vouched(q, v, *p)).count()
+    }
+
+    // Whether q extracts place v after this round: it holds the sender's own triple, and enough origins vouch.
+    fn extracts(&self, q: u16, v: u16) -> bool
+        ensures { result ≡ extracts (C.Carriage.model self.now.carriage.now) q v self.now.sender self.now.number }
+    {
+        let own = Triple {
+            origin: self.sender,
             place: v,
-            round: j + 1,
+            round: 1,
         };
-        if has_accepted(carriage, q, x) {
-            return true;
+        self.has_accepted(q, own) && self.number as usize <= self.origin_count(q, v)
+    }
+
+    // Whether q extracts v now and had not before.
+    fn is_new(&self, q: u16, v: u16) -> bool
+        ensures { result ≡ is_new_to (C.Carriage.model self.now.carriage.now) self.now.sender (in_set self.now.before.now) self.now.number q v }
+    {
+        !self.before.contains(q, v) && self.extracts(q, v)
+    }
+
+    // What q extracts now and had not before.
+    fn new_row(&self, q: u16) -> PlaceSet
+        ensures { (v : ℕ) → holds result v ≡ is_new_to (C.Carriage.model self.now.carriage.now) self.now.sender (in_set self.now.before.now) self.now.number q v }
+    {
+        let mut row = PlaceSet::empty();
+        // a loop, since each place that is found is written
+        for v in 0..self.carriage.list_len() {
+            if self.is_new(q, v) {
+                row.insert(v);
+            }
         }
+        row
     }
-    false
-}
 
-// From how many different origins q has accepted such a triple.
-fn origin_count<C: Carriage>(carriage: &C, q: u16, v: u16, rounds: u16) -> u16
-    ensures { result ≡ origins (C.Carriage.model carriage.now) q v rounds }
-{
-    let mut total: u16 = 0;
-    let n = carriage.group().n();
-    for p in 0..n {
-        if has_vouched(carriage, q, v, rounds, p) {
-            total += 1;
+    // All that controllers extract now and had not before.
+    pub(crate) fn new_places(&self) -> Extracted
+        ensures { (q v : ℕ) → in_set result q v ≡ is_new_to (C.Carriage.model self.now.carriage.now) self.now.sender (in_set self.now.before.now) self.now.number q v }
+    {
+        let mut news = Extracted::empty();
+        // a loop, since each row is written
+        for q in 0..self.carriage.group().n() {
+            news.set(q, self.new_row(q));
         }
+        news
     }
-    total
-}
-
-// Whether q extracts place v after this round: it holds the sender's own triple, and enough origins vouch.
-fn extracts_now<C: Carriage>(carriage: &C, sender: u16, round: u16, q: u16, v: u16) -> bool
-    ensures { result ≡ extracts (C.Carriage.model carriage.now) q v sender round }
-{
-    let own = Triple {
-        origin: sender,
-        place: v,
-        round: 1,
-    };
-    has_accepted(carriage, q, own) && round <= origin_count(carriage, q, v, round)
-}
-
-// Whether q extracts v now and had not before.
-fn is_new<C: Carriage>(
-    carriage: &C,
-    sender: u16,
-    before: &Extracted,
-    round: u16,
-    q: u16,
-    v: u16,
-) -> bool
-    ensures { result ≡ is_new_to (C.Carriage.model carriage.now) sender (in_set before.now) round q v }
-{
-    !before.contains(q, v) && extracts_now(carriage, sender, round, q, v)
-}
-
-// Adds to `news` what q extracts now and had not before.
-fn add_new<C: Carriage>(
-    carriage: &C,
-    sender: u16,
-    before: &Extracted,
-    round: u16,
-    q: u16,
-    news: &mut Extracted,
-)
-    requires { q < 16 }
-    ensures { (p v : ℕ) → in_set news.new p v ≡ ((p == q && is_new_to (C.Carriage.model carriage.now) sender (in_set before.now) round p v) || in_set news.old p v) }
-{
-    let len = carriage.list_len();
-    for v in 0..len {
-        if is_new(carriage, sender, before, round, q, v) {
-            news.insert(q, v);
-        }
-    }
-}
-
-// All that controllers extract now and had not before.
-pub(crate) fn new_places<C: Carriage>(
-    carriage: &C,
-    sender: u16,
-    before: &Extracted,
-    round: u16,
-) -> Extracted
-    ensures { (q v : ℕ) → in_set result q v ≡ is_new_to (C.Carriage.model carriage.now) sender (in_set before.now) round q v }
-{
-    let mut news = Extracted::empty();
-    let n = carriage.group().n();
-    for q in 0..n {
-        add_new(carriage, sender, before, round, q, &mut news);
-    }
-    news
 }

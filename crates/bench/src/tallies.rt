@@ -3,6 +3,8 @@ ghost use Rattle.std.specs.Prelude.{◌≡◌, ℕ, ◌<◌, ◌&&◌, if◌then
 ghost use Rattle.agreement.specs.Steps.{raised};
 ghost use Rattle.bench.specs.Tables.{tally_in, tally_of};
 
+use values::Block;
+
 // One controller's tallies, by block.
 #[derive(Clone, Copy)]
 pub struct Register {
@@ -17,21 +19,19 @@ impl Register {
     }
 
     // One charge more of a block, unless its tally is 3.
-    fn charge(&mut self, block: u16)
-        requires { block < 64 }
+    fn charge(&mut self, block: Block)
         ensures { (b : ℕ) → tally_in self.new b ≡ (if nat_eq block b then raised (tally_in self.old b) else tally_in self.old b) }
     {
-        let count = self.counts[block as usize];
-        if count < 3 {
-            self.counts[block as usize] = count + 1;
+        let count = &mut self.counts[block.number() as usize];
+        if *count < 3 {
+            *count += 1;
         }
     }
 
-    fn tally(&self, block: u16) -> u16
-        requires { block < 64 }
+    fn tally(&self, block: Block) -> u16
         ensures { result ≡ tally_in self.now block }
     {
-        self.counts[block as usize] as u16
+        self.counts[block.number() as usize] as u16
     }
 }
 
@@ -51,15 +51,15 @@ impl Registers {
     }
 
     // Charges a block in the register of controller q.
-    pub(crate) fn charge(&mut self, q: u16, block: u16)
-        requires { (q < 16) × (block < 64) }
+    pub(crate) fn charge(&mut self, q: u16, block: Block)
+        requires { q < 16 }
         ensures { (p b : ℕ) → tally_of self.new p b ≡ (if nat_eq p q && block == b then raised (tally_of self.old p b) else tally_of self.old p b) }
     {
         self.rows[q as usize].charge(block);
     }
 
-    pub(crate) fn tally(&self, q: u16, block: u16) -> u16
-        requires { (q < 16) × (block < 64) }
+    pub(crate) fn tally(&self, q: u16, block: Block) -> u16
+        requires { q < 16 }
         ensures { result ≡ tally_of self.now q block }
     {
         self.rows[q as usize].tally(block)

@@ -6,7 +6,6 @@
 ghost use Rattle.broadcast.specs.Holders.{HoldersBelow, holds};
 ghost use Rattle.std.specs.Prelude.{◌≡◌};
 
-use anyhow::anyhow;
 use carriage::{Carriage, Frame, Triple};
 use echo::Echo;
 use faults::{CarriageFault, Fault};
@@ -19,24 +18,14 @@ use std::io;
 fn is_holder<C: Carriage>(c: &C, q: u16, x: Triple) -> bool
     ensures { result ≡ holds (C.Carriage.model c.now) x q }
 {
-    match c.held(q, x) {
-        Ok(held) => held,
-        Err(_) => false,
-    }
+    c.held(q, x).unwrap_or(false)
 }
 
 // The correct controllers that have accepted the triple.
 fn holders<C: Carriage>(c: &C, x: Triple) -> ControllerSet
     ensures { HoldersBelow (C.Carriage.model c.now).group.n (C.Carriage.model c.now) x result }
 {
-    let n = c.group().n();
-    let mut found = ControllerSet::empty();
-    for q in 0..n {
-        if is_holder(c, q, x) {
-            found = found.with(q);
-        }
-    }
-    found
+    ControllerSet::below(c.group().n()).filter(|q| is_holder(c, q, x))
 }
 
 fn refused(rt: &HostRuntime, fault: CarriageFault) -> io::Result<()> {
@@ -46,10 +35,8 @@ fn refused(rt: &HostRuntime, fault: CarriageFault) -> io::Result<()> {
 }
 
 fn offer<C: Carriage>(rt: &HostRuntime, c: &mut C, x: Triple) -> io::Result<()> {
-    let p = x.origin;
-    let v = x.place;
-    let i = x.round;
-    print!(rt; "  {p} offers ({p},{v},{i})")?;
+    let from = x.origin;
+    print!(rt; "  {from} offers {x}")?;
     match c.offer(x) {
         Ok(()) => println!(rt; ""),
         Err(fault) => refused(rt, fault),
@@ -60,10 +47,8 @@ fn inject<C: Carriage>(rt: &HostRuntime, c: &mut C, f: Frame) -> io::Result<()> 
     let from = f.from;
     let to = f.to;
     let letter = f.letter();
-    let p = f.triple.origin;
-    let v = f.triple.place;
-    let i = f.triple.round;
-    print!(rt; "  {from} sends {letter} of ({p},{v},{i}) to {to}")?;
+    let x = f.triple;
+    print!(rt; "  {from} sends {letter} of {x} to {to}")?;
     match c.inject(f) {
         Ok(()) => println!(rt; ""),
         Err(fault) => refused(rt, fault),
@@ -81,10 +66,8 @@ fn report<C: Carriage>(
     if newly.is_empty() {
         return Ok(());
     }
-    let p = x.origin;
-    let v = x.place;
-    let i = x.round;
-    print!(rt; "  ({p},{v},{i}) accepted by")?;
+    print!(rt; "  {x} accepted by")?;
+    // a loop, since each member is printed and printing may fail
     for q in 0..16u16 {
         if newly.contains(q) {
             print!(rt; " {q}")?;
@@ -151,6 +134,7 @@ fn refusals<C: Carriage>(rt: &HostRuntime, c: &mut C, letter: u8) -> io::Result<
 
 // Turns until a turn is refused.
 fn turns<C: Carriage>(rt: &HostRuntime, c: &mut C) -> io::Result<()> {
+    // a loop, since each turn changes the carriage
     for _ in 0..6 {
         if !turn(rt, c, OFFERED, SENT)? {
             break;
@@ -166,18 +150,10 @@ fn show<C: Carriage>(rt: &HostRuntime, c: &mut C, letter: u8) -> io::Result<()> 
 }
 
 fn run(rt: &HostRuntime) -> anyhow::Result<()> {
-    let Ok(marks) = Marks::none().with(3) else {
-        return Err(anyhow!("no such mark"));
-    };
-    let Ok(group) = Group::new(4, 1, marks) else {
-        return Err(anyhow!("no such group"));
-    };
-    let Ok(mut seal) = Seal::new(group, 2) else {
-        return Err(anyhow!("no such list length"));
-    };
-    let Ok(mut echo) = Echo::new(group, 2) else {
-        return Err(anyhow!("no such list length"));
-    };
+    let marks = Marks::none().with(3)?;
+    let group = Group::new(4, 1, marks)?;
+    let mut seal = Seal::new(group, 2)?;
+    let mut echo = Echo::new(group, 2)?;
     println!(rt; "controllers 0 to 3, controller 3 marked, lists of 2 values")?;
     println!(rt; "the seal carriage")?;
     show(rt, &mut seal, b's')?;

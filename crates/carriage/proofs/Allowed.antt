@@ -1,11 +1,8 @@
 -- What is known where a call is not refused. Assumes nothing.
 use Rattle.std.proofs.Common.{◌≡◌, ℕ, ◌+◌, ◌*◌, ◌<◌, ◌≤◌, Bool, true, false, cond, ◌&&◌, eqb, Some, None, Option, refl, arith}
 use Rattle.std.proofs.lemmas.Bool.{and_parts, eqb-true, eqb-false}
-use Rattle.groups.specs.Groups.{marked, correct}
-use Rattle.carriage.specs.Model.{Model, is_correct, knows, end_phase, offer_fault, inject_fault, turn_fault, frame_cause}
-use Rattle.faults.specs.declared.causes.CarriageFault.{CarriageFault}
-use Rattle.faults.specs.declared.causes.CarriageFault.TheVariants.{From, NotCorrect}
-use Rattle.groups.specs.declared.members.Group.{Group}
+use Rattle.groups.specs.Groups.{marked}
+use Rattle.carriage.specs.Model.{Model, is_correct, knows, end_phase, offer_fault, inject_fault, turn_fault}
 use Rattle.carriage.specs.declared.frames.Triple.{Triple}
 use Rattle.carriage.specs.declared.frames.Frame.{Frame}
 
@@ -37,12 +34,3 @@ inject_allowed letter seal m f h =
 
 pub turn_allowed : (m : Model) → m.phase ≤ end_phase m.group → turn_fault m ≡ None → m.phase < end_phase m.group
 turn_allowed m le h = let ne : m.phase ≡ end_phase m.group → ⊥ = eqb-false _ _ (no_fault_left (eqb m.phase (end_phase m.group)) _ h) in omega arith
-
--- a fault of a frame's ends comes before anything that the carriage finds in it
-pub ends_first : (g : Group) (f : Frame) (found : Option CarriageFault) (e : CarriageFault) → frame_cause g f None ≡ Some e → frame_cause g f found ≡ Some e
-ends_first g f found e = go (marked g f.from) (correct g f.to)
-  where
-    go : (a b : Bool) → cond a (cond b None (Some NotCorrect)) (Some From) ≡ Some e → cond a (cond b found (Some NotCorrect)) (Some From) ≡ Some e
-    go true true h = let z : ◌≡◌ {A = ℕ} 0 1 = cc in absurd (omega arith)
-    go true false h = h
-    go false b h = h

@@ -1,6 +1,5 @@
-pub mod Held
-pub mod Relaying
 pub mod Slots
 pub mod Tables
+pub mod Sweeps
 pub mod Props
 pub mod Allowed

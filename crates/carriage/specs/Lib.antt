@@ -3,3 +3,4 @@ pub mod Model
 pub mod Runs
 pub mod Moments
 pub mod Checks
+pub mod Cells

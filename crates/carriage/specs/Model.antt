@@ -30,6 +30,10 @@ end_phase g = 2 * g.t + 3
 abbrev pub afresh : Model → Model
 afresh m = record { group = m.group; len = m.len; phase = 1; offered = λ x. false; accepted = λ q x. false }
 
+-- a triple out of range is refused
+abbrev pub range_cause : Group → (len : ℕ) → Triple → Option CarriageFault
+range_cause g len x = cond (in_range g len x) None (Some Range)
+
 -- Offer: a triple in range, of a correct origin, in the first phase of its round
 abbrev pub offer_cause : Group → (len phase : ℕ) → Triple → Option CarriageFault
 offer_cause g len phase x = cond (in_range g len x) (cond (correct g x.origin && phase + 1 == 2 * x.round) None (Some Offer)) (Some Range)
@@ -49,8 +53,11 @@ abbrev pub inject_fault : (letter seal : Bool) → Model → Frame → Option Ca
 inject_fault letter seal m f = frame_cause m.group f (cond letter (cond (knows m f.triple) (cond seal None (Some Seal)) (Some Range)) (Some Letter))
 
 -- Turn: one phase more, nothing accepted is lost, and what one correct controller had accepted all have accepted
+abbrev pub turn_cause : Group → (phase : ℕ) → Option CarriageFault
+turn_cause g phase = cond (phase == end_phase g) (Some Turn) None
+
 abbrev pub turn_fault : Model → Option CarriageFault
-turn_fault m = cond (m.phase == end_phase m.group) (Some Turn) None
+turn_fault m = turn_cause m.group m.phase
 
 pub record Turned (m n : Model) : Type 0 where
   pub group : n.group ≡ m.group

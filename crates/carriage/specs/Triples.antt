@@ -1,5 +1,5 @@
--- Which triples a group knows, and where a table keeps them. Assumes nothing.
-use Rattle.std.specs.Prelude.{ℕ, ◌+◌, ◌*◌, ◌%◌, Bool, ◌&&◌, ◌==◌, nat_le, nat_lt}
+-- Which triples a group knows, where a table keeps them, and how they are printed. Assumes nothing.
+use Rattle.std.specs.Prelude.{ℕ, ◌+◌, ◌*◌, ◌%◌, Bool, ◌&&◌, List, ◌++◌, ◌==◌, nat_le, nat_lt, codes, decimal}
 use Rattle.groups.specs.declared.members.Group.{Group}
 use Rattle.carriage.specs.declared.frames.Triple.{Triple}
 
@@ -13,3 +13,7 @@ same_triple x y = x.origin == y.origin && (x.place == y.place && x.round == y.ro
 -- 16 origins to a place, 4 places to a round, 6 rounds
 abbrev pub slot_of : Triple → ℕ
 slot_of x = x.origin % 16 + 16 * (x.place % 4) + 64 * ((x.round + 5) % 6)
+
+-- the origin, the place and the round, as (0,1,2)
+abbrev pub triple_text : Triple → List ℕ
+triple_text x = codes "(" ++ decimal x.origin ++ codes "," ++ decimal x.place ++ codes "," ++ decimal x.round ++ codes ")"

@@ -1,8 +1,9 @@
 // What controllers send: triples, and the frames that carry them.
-ghost use Rattle.carriage.specs.Triples.{in_range, slot_of};
-ghost use Rattle.std.specs.Prelude.{◌≡◌};
+ghost use Rattle.carriage.specs.Triples.{in_range, slot_of, triple_text};
+ghost use Rattle.std.specs.Prelude.{◌≡◌, Some};
 
 use groups::Group;
+use std::fmt;
 
 // Controller `origin` vouches in a round for the value at a place of the list.
 #[derive(Clone, Copy, Debug, PartialEq, Eq)]
@@ -34,8 +35,21 @@ impl Triple {
     }
 }
 
+impl fmt::Display for Triple {
+    ghost output = { λ x. Some (triple_text x) };
+
+    fn fmt<W: fmt::Write>(&self, f: &mut fmt::Formatter<W>) -> fmt::Result {
+        let Triple {
+            origin,
+            place,
+            round,
+        } = *self;
+        write!(f, "({origin},{place},{round})")
+    }
+}
+
 // A frame from one controller to another. The letter says what it means: i (init), e (echo) or s (seal). It is kept
-// as the byte that a campaign text has for it.
+// as a byte and not as an enum: a text may have any byte there, and a carriage refuses with a fault those that it does not read.
 #[derive(Clone, Copy, Debug, PartialEq, Eq)]
 pub struct Frame {
     pub from: u16,

@@ -1,4 +1,5 @@
 // Marks and groups: what is taken, and each refusal by its number.
+use crate::shared::answer;
 use faults::{Fault, ValueFault};
 use groups::{Group, Marks};
 use std::test::Fail;
@@ -15,10 +16,7 @@ fn marks_of(first: u16, second: Option<u16>) -> Result<Marks, ValueFault> {
 fn group_answer(n: u16, t: u16, first: u16, second: Option<u16>) -> u16 {
     match marks_of(first, second) {
         Err(fault) => fault.number(),
-        Ok(marks) => match Group::new(n, t, marks) {
-            Err(fault) => fault.number(),
-            Ok(_) => 0,
-        },
+        Ok(marks) => answer(Group::new(n, t, marks)),
     }
 }
 
@@ -40,12 +38,7 @@ fn groups_are_made_or_refused(rt: HostRuntime) {
 
 #[test]
 fn the_lowest_correct_controller(rt: HostRuntime) -> Result<(), Fail> {
-    let Ok(marks) = marks_of(0, Some(1)) else {
-        return Err(Fail::new("two marks"));
-    };
-    let Ok(group) = Group::new(7, 2, marks) else {
-        return Err(Fail::new("a group of seven"));
-    };
+    let group = Group::new(7, 2, marks_of(0, Some(1))?)?;
     assert_eq!(rt; group.lowest_correct(), 2);
     assert!(rt; !group.is_correct(0) && group.is_correct(6) && !group.is_correct(7));
     assert!(rt; group.is_marked(1) && !group.is_marked(65535));

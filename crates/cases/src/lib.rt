@@ -8,6 +8,8 @@ mod group_making;
 #[cfg(test)]
 mod seals;
 #[cfg(test)]
+mod shared;
+#[cfg(test)]
 mod shots;
 #[cfg(test)]
 mod values_and_lists;

@@ -1,44 +1,13 @@
 // The seal carriage: each refusal by its number, and that a refusal changes nothing.
-use carriage::{Carriage, Frame, Triple};
-use faults::{CarriageFault, Fault};
-use groups::{Group, Marks};
+use crate::shared::{answer, four, triple};
+use carriage::{Carriage, CarriageFault, Frame};
 use seal::Seal;
 use std::test::Fail;
 
-fn four() -> Option<Group> {
-    let Ok(marks) = Marks::none().with(3) else {
-        return None;
-    };
-    match Group::new(4, 1, marks) {
-        Ok(group) => Some(group),
-        Err(_) => None,
-    }
-}
-
-fn triple(origin: u16, place: u16, round: u16) -> Triple {
-    Triple {
-        origin,
-        place,
-        round,
-    }
-}
-
-// 0 where the call is taken, else the number of the fault.
-fn answer(r: Result<(), CarriageFault>) -> u16 {
-    match r {
-        Ok(()) => 0,
-        Err(fault) => fault.number(),
-    }
-}
-
 #[test]
 fn frames_are_refused_for_the_first_cause(rt: HostRuntime) -> Result<(), Fail> {
-    let Some(group) = four() else {
-        return Err(Fail::new("a group of four"));
-    };
-    let Ok(mut seal) = Seal::new(group, 2) else {
-        return Err(Fail::new("a carriage for two values"));
-    };
+    let group = four()?;
+    let mut seal = Seal::new(group, 2)?;
     let own = triple(3, 1, 1);
     assert_eq!(rt;
         answer(seal.inject(Frame::new(2, 3, b'x', triple(9, 9, 9)))),
@@ -73,17 +42,14 @@ fn frames_are_refused_for_the_first_cause(rt: HostRuntime) -> Result<(), Fail> {
 
 #[test]
 fn offers_and_turns_have_their_time(rt: HostRuntime) -> Result<(), Fail> {
-    let Some(group) = four() else {
-        return Err(Fail::new("a group of four"));
-    };
-    let Ok(mut seal) = Seal::new(group, 4) else {
-        return Err(Fail::new("a carriage for four values"));
-    };
+    let group = four()?;
+    let mut seal = Seal::new(group, 4)?;
     assert_eq!(rt; answer(seal.offer(triple(0, 4, 1))), 17);
     assert_eq!(rt; answer(seal.offer(triple(3, 0, 1))), 19);
     assert_eq!(rt; answer(seal.offer(triple(0, 0, 2))), 19);
     assert_eq!(rt; answer(seal.offer(triple(0, 0, 1))), 0);
     assert_eq!(rt; seal.held(1, triple(0, 0, 1)), Ok(false));
+    // a loop, since each turn changes the carriage
     for _ in 0..4 {
         assert_eq!(rt; answer(seal.turn()), 0);
     }
@@ -103,14 +69,9 @@ fn offers_and_turns_have_their_time(rt: HostRuntime) -> Result<(), Fail> {
 
 #[test]
 fn carriages_are_made_for_one_to_four_values(rt: HostRuntime) -> Result<(), Fail> {
-    let Some(group) = four() else {
-        return Err(Fail::new("a group of four"));
-    };
+    let group = four()?;
     for len in [0u16, 5, 65535] {
-        match Seal::new(group, len) {
-            Ok(_) => return Err(Fail::new("a wrong length was taken")),
-            Err(fault) => assert_eq!(rt; fault.number(), 7),
-        }
+        assert_eq!(rt; answer(Seal::new(group, len)), 7);
     }
     Ok(())
 }

@@ -1,15 +1,8 @@
 // Values and lists: sameness, charges, places, and each refusal by its number.
-use faults::{Fault, ValueFault};
+use crate::shared::answer;
 use lists::{check_list, place};
 use std::test::Fail;
-use values::{Kind, Notice, Outcome, PulseReport};
-
-fn value_answer(r: Result<PulseReport, ValueFault>) -> u16 {
-    match r {
-        Ok(_) => 0,
-        Err(fault) => fault.number(),
-    }
-}
+use values::{Block, Kind, Notice, Outcome, PulseReport};
 
 #[test]
 fn notices_are_the_same_whatever_their_tick(rt: HostRuntime) -> Result<(), Fail> {
@@ -17,8 +10,8 @@ fn notices_are_the_same_whatever_their_tick(rt: HostRuntime) -> Result<(), Fail>
     let late = Notice::new(Outcome::Failed, 5, 65535)?;
     let passed = Notice::new(Outcome::Passed, 5, 0)?;
     assert!(rt; early.is_same(&late) && !early.is_same(&passed));
-    assert_eq!(rt; late.charged_block(), Some(5));
-    assert_eq!(rt; passed.charged_block(), None);
+    assert_eq!(rt; late.charged_block().map(Block::number), Some(5));
+    assert_eq!(rt; passed.charged_block().map(Block::number), None);
     assert!(rt; passed.letter() == 'P' && late.tick() == 65535);
     assert!(rt;
         Notice::new(Outcome::Failed, 64, 0).is_err()
@@ -29,35 +22,40 @@ fn notices_are_the_same_whatever_their_tick(rt: HostRuntime) -> Result<(), Fail>
 
 #[test]
 fn eight_pulses_charge(rt: HostRuntime) -> Result<(), Fail> {
-    assert_eq!(rt; PulseReport::new(63, 8)?.charged_block(), Some(63));
-    assert_eq!(rt; PulseReport::new(63, 7)?.charged_block(), None);
-    assert_eq!(rt; value_answer(PulseReport::new(64, 8)), 3);
-    assert_eq!(rt; value_answer(PulseReport::new(0, 0)), 3);
-    assert_eq!(rt; value_answer(PulseReport::new(0, 9)), 3);
-    assert_eq!(rt; value_answer(PulseReport::new(65535, 65535)), 3);
+    assert_eq!(rt;
+        PulseReport::new(63, 8)?.charged_block().map(Block::number),
+        Some(63)
+    );
+    assert_eq!(rt;
+        PulseReport::new(63, 7)?.charged_block().map(Block::number),
+        None
+    );
+    assert_eq!(rt; answer(PulseReport::new(64, 8)), 3);
+    assert_eq!(rt; answer(PulseReport::new(0, 0)), 3);
+    assert_eq!(rt; answer(PulseReport::new(0, 9)), 3);
+    assert_eq!(rt; answer(PulseReport::new(65535, 65535)), 3);
     Ok(())
 }
 
-// 0 where the list is taken, else the number of the fault.
 fn list_answer(values: &[Notice]) -> u16 {
-    match check_list(values) {
-        Ok(()) => 0,
-        Err(fault) => fault.number(),
-    }
+    answer(check_list(values))
 }
 
 #[test]
 fn lists_hold_one_to_four_values(rt: HostRuntime) -> Result<(), Fail> {
-    let a = Notice::new(Outcome::Failed, 5, 0)?;
-    let b = Notice::new(Outcome::Failed, 9, 0)?;
-    let c = Notice::new(Outcome::Passed, 5, 0)?;
-    let d = Notice::new(Outcome::Passed, 9, 0)?;
-    let again = Notice::new(Outcome::Failed, 9, 7)?;
-    assert_eq!(rt; list_answer(&[a, b, c, d]), 0);
+    let all = [
+        Notice::new(Outcome::Failed, 5, 0)?,
+        Notice::new(Outcome::Failed, 9, 0)?,
+        Notice::new(Outcome::Passed, 5, 0)?,
+        Notice::new(Outcome::Passed, 9, 0)?,
+        Notice::new(Outcome::Failed, 9, 7)?,
+    ];
+    let repeated = [all[0], all[1], all[4]];
+    assert_eq!(rt; list_answer(&all[..4]), 0);
     assert_eq!(rt; list_answer(&[]), 7);
-    assert_eq!(rt; list_answer(&[a, b, c, d, again]), 7);
-    assert_eq!(rt; list_answer(&[a, b, again]), 8);
-    assert_eq!(rt; place(&[a, b, again], &again), Some(1));
-    assert_eq!(rt; place(&[a, c], &again), None);
+    assert_eq!(rt; list_answer(&all), 7);
+    assert_eq!(rt; list_answer(&repeated), 8);
+    assert_eq!(rt; place(&repeated, &all[4]), Some(1));
+    assert_eq!(rt; place(&[all[0], all[2]], &all[4]), None);
     Ok(())
 }

@@ -28,13 +28,17 @@ bind (Some x) f = f x
 abbrev pub single : List ℕ → Option ℕ
 single ds = cond (length ds == 1) (Some (slice_index ds 0)) None
 
--- a number, a comma (44), and the rest
+-- what f reads of the field before the first comma (44), and the rest
+abbrev pub field_by : {X : Type 0} → (List ℕ → Option X) → List ℕ → Option (X × List ℕ)
+field_by f s = bind (cut_at 44 s) (λ p. bind (f p.0) (λ x. Some (x, p.1)))
+
+-- a number, a comma, and the rest
 abbrev pub field_number : List ℕ → Option (ℕ × List ℕ)
-field_number s = bind (cut_at 44 s) (λ p. bind (decode p.0) (λ n. Some (n, p.1)))
+field_number = field_by decode
 
 -- a letter, a comma, and the rest
 abbrev pub field_letter : List ℕ → Option (ℕ × List ℕ)
-field_letter s = bind (cut_at 44 s) (λ p. bind (single p.0) (λ c. Some (c, p.1)))
+field_letter = field_by single
 
 -- the byte c stands nowhere in the list
 abbrev pub Lacks : ℕ → List ℕ → Type 0

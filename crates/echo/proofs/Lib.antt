@@ -1,4 +1,3 @@
-pub mod Sweeps
-pub mod Views
 pub mod Sentences
 pub mod Told
+pub mod Views

@@ -201,10 +201,10 @@ module _ (g : Group) (len : ℕ) where
   along fresh (injected {es = es} {f = f} r s) = let a = along fresh r in record { is = s.1 ∙ ap (λ z. inject_state z f) a.is; first = inject_first es f a.first }
   along fresh (turned {d = d} {es = es} r s) = let a = along fresh r in record { is = s.1 ∙ ap turn_state a.is ∙ turn_story es a.first; first = turn_first d es a.is }
 
-pub tells_the_run : (c : Echo) → state_of c ≡ fresh_state c.group c.len → TellsTheRun c
+pub tells_the_run : (c : Echo) → state_of c ≡ fresh_state c.stage.group c.stage.len → TellsTheRun c
 tells_the_run c fresh = record {
   says = λ es d run.
-      let is = (along c.group c.len fresh run).is in
+      let is = (along c.stage.group c.stage.len fresh run).is in
       record {
         group = ap (λ s. s.group) is;
         length = ap (λ s. s.len) is;
@@ -213,5 +213,5 @@ tells_the_run c fresh = record {
         witness = λ q x. ap (λ s. s.witness q x) is;
         accepted = λ q x. ap (λ s. s.accepted q x) is;
       };
-  rules = echo_rules c.group c.len;
+  rules = echo_rules c.stage.group c.stage.len;
 }

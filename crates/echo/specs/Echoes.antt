@@ -10,7 +10,7 @@ use Rattle.echo.specs.View.{view_of}
 use Rattle.echo.specs.declared.carrier.Echo.{Echo}
 
 abbrev pub state_of : Echo → State
-state_of c = view_of c.group c.len c.phase c.cells c.echoes
+state_of c = view_of c.stage.group c.stage.len c.stage.phase c.table.cells
 
 abbrev pub echo_model : Echo → Model
 echo_model c = model_of (state_of c)

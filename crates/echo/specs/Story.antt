@@ -109,5 +109,5 @@ pub record Says (g : Group) (len : ℕ) (es : List Event) (c : Echo) : Type 0 wh
 
 -- after every run from a carriage just made, by the rules
 pub record TellsTheRun (c : Echo) : Type 0 where
-  pub says : (es : List Event) (d : Echo) → Ran echo_account c es d → Says c.group c.len es d
-  pub rules : EchoRules c.group c.len
+  pub says : (es : List Event) (d : Echo) → Ran echo_account c es d → Says c.stage.group c.stage.len es d
+  pub rules : EchoRules c.stage.group c.stage.len

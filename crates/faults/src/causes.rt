@@ -3,6 +3,7 @@ ghost use Rattle.faults.specs.Faults.{value_layer, value_number, value_words, li
 ghost use Rattle.std.specs.Prelude.{◌≡◌, Some};
 
 use crate::layers::{Fault, Layer};
+use std::error::Error;
 use std::fmt;
 
 // A number outside the range of what it stands for.
@@ -19,6 +20,8 @@ impl Fault for ValueFault {
 
     ghost layered = { value_layer };
 
+    ghost worded = { value_words };
+
     fn number(&self) -> u16 {
         match self {
             ValueFault::Block | ValueFault::Pulses | ValueFault::Count | ValueFault::Mark => 3,
@@ -28,13 +31,8 @@ impl Fault for ValueFault {
     fn layer(&self) -> Layer {
         Layer::Value
     }
-}
 
-impl ValueFault {
-    // The cause in words.
-    pub fn words(&self) -> &'static str
-        ensures { result.now ≡ value_words self.now }
-    {
+    fn words(&self) -> &'static str {
         match self {
             ValueFault::Block => "block above 63",
             ValueFault::Pulses => "pulses not 1 to 8",
@@ -52,6 +50,8 @@ impl fmt::Display for ValueFault {
     }
 }
 
+impl Error for ValueFault {}
+
 // What is wrong with a value list, or with the length that a list or a carriage is made for.
 #[derive(Clone, Copy, Debug, PartialEq, Eq)]
 pub enum ListFault {
@@ -64,6 +64,8 @@ impl Fault for ListFault {
 
     ghost layered = { list_layer };
 
+    ghost worded = { list_words };
+
     fn number(&self) -> u16 {
         match self {
             ListFault::Length => 7,
@@ -74,13 +76,8 @@ impl Fault for ListFault {
     fn layer(&self) -> Layer {
         Layer::List
     }
-}
 
-impl ListFault {
-    // The cause in words.
-    pub fn words(&self) -> &'static str
-        ensures { result.now ≡ list_words self.now }
-    {
+    fn words(&self) -> &'static str {
         match self {
             ListFault::Length => "list length not 1 to 4, or not the carriage's",
             ListFault::Repeated => "two values of the list are the same",
@@ -96,6 +93,8 @@ impl fmt::Display for ListFault {
     }
 }
 
+impl Error for ListFault {}
+
 // Why numbers and marks make no group.
 #[derive(Clone, Copy, Debug, PartialEq, Eq)]
 pub enum GroupFault {
@@ -109,6 +108,8 @@ impl Fault for GroupFault {
 
     ghost layered = { group_layer };
 
+    ghost worded = { group_words };
+
     fn number(&self) -> u16 {
         match self {
             GroupFault::Size => 4,
@@ -120,13 +121,8 @@ impl Fault for GroupFault {
     fn layer(&self) -> Layer {
         Layer::Group
     }
-}
 
-impl GroupFault {
-    // The cause in words.
-    pub fn words(&self) -> &'static str
-        ensures { result.now ≡ group_words self.now }
-    {
+    fn words(&self) -> &'static str {
         match self {
             GroupFault::Size => "n not 1 to 16",
             GroupFault::Tolerance => "n not above 3t",
@@ -142,6 +138,8 @@ impl fmt::Display for GroupFault {
         f.write_str(self.words())
     }
 }
+
+impl Error for GroupFault {}
 
 // Why a carriage refuses a call.
 #[derive(Clone, Copy, Debug, PartialEq, Eq)]
@@ -160,6 +158,8 @@ impl Fault for CarriageFault {
 
     ghost layered = { carriage_layer };
 
+    ghost worded = { carriage_words };
+
     fn number(&self) -> u16 {
         match self {
             CarriageFault::From => 14,
@@ -175,13 +175,8 @@ impl Fault for CarriageFault {
     fn layer(&self) -> Layer {
         Layer::Carriage
     }
-}
 
-impl CarriageFault {
-    // The cause in words.
-    pub fn words(&self) -> &'static str
-        ensures { result.now ≡ carriage_words self.now }
-    {
+    fn words(&self) -> &'static str {
         match self {
             CarriageFault::From => "frame not from a marked controller",
             CarriageFault::NotCorrect => "controller not correct",
@@ -201,3 +196,5 @@ impl fmt::Display for CarriageFault {
         f.write_str(self.words())
     }
 }
+
+impl Error for CarriageFault {}

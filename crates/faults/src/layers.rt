@@ -1,5 +1,5 @@
 // What every fault tells: the layer that returns it, and its number.
-ghost use Rattle.std.specs.Prelude.{◌≡◌, ℕ, Some};
+ghost use Rattle.std.specs.Prelude.{◌≡◌, ℕ, List, Some};
 ghost use Rattle.faults.specs.Faults.{layer_word};
 ghost use Rattle.faults.specs.declared.layers.Layer.{Layer};
 
@@ -40,15 +40,20 @@ impl fmt::Display for Layer {
     }
 }
 
-// What every fault tells: its number, and its layer. A fault that wraps another keeps both.
+// What every fault tells: its number, its layer, and its cause in words. A fault that wraps another keeps all three.
 pub trait Fault {
     ghost numbered: { Self → ℕ };
 
     ghost layered: { Self → Layer };
+
+    ghost worded: { Self → List ℕ };
 
     fn number(&self) -> u16
         ensures { result ≡ numbered self.now };
 
     fn layer(&self) -> Layer
         ensures { result ≡ layered self.now };
+
+    fn words(&self) -> &'static str
+        ensures { result.now ≡ worded self.now };
 }

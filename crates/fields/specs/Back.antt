@@ -7,7 +7,7 @@ use Rattle.std.proofs.Math.Bridge.{le_prop}
 use Rattle.std.proofs.Math.Decide.{dec_lt, dec_le}
 use Rattle.std.specs.Result.{result_err}
 use Rattle.std.proofs.lemmas.Bool.{cond-true, cond-false, ne_eqb, eqb-true, lt-ltb, le-ltb, le-leb, lt-leb, and_from, and_left, and_right, or_cases}
-use Rattle.values.specs.Letters.{letter_of, is_letter}
+use Rattle.values.specs.Letters.{letter_of, is_letter, outcome_by}
 use Rattle.values.specs.Ranges.{block_fault, pulse_fault}
 use Rattle.faults.specs.declared.causes.ValueFault.{ValueFault}
 use Rattle.faults.specs.declared.causes.ValueFault.TheVariants.{Block, Pulses}
@@ -16,7 +16,7 @@ use Rattle.values.specs.declared.notices.Outcome.{Outcome}
 use Rattle.values.specs.declared.notices.Outcome.TheVariants.{Failed, Passed}
 use Rattle.values.specs.declared.pulses.PulseReport.{PulseReport}
 use Rattle.cuts.specs.Cuts.{decode, field_number, field_letter, Lacks}
-use Rattle.fields.specs.Values.{notice_shows, NoticeFits, outcome_by, notice_in, notice_of, notice_reads, pulse_shows, pulse_in, pulse_of, pulse_reads}
+use Rattle.fields.specs.Values.{notice_shows, NoticeFits, notice_in, notice_of, notice_reads, pulse_shows, pulse_in, pulse_of, pulse_reads}
 use Rattle.cuts.proofs.Decimal.{decode_back, decode_forth}
 use Rattle.cuts.proofs.Fields.{bind_back, bind_forth, number_field_back, number_field_forth, letter_field_back, letter_field_forth, lacks_append, lacks_decimal, length_number}
 
@@ -37,6 +37,9 @@ notice_fields o b t (no q) v e = let z : ◌≡◌ {A = ℕ} 0 1 = cc in absurd 
 notice_whole : (o : Outcome) (b t : ℕ) (d : Dec (b < 64)) (v : Notice) → v.letter ≡ letter_of o → v.block ≡ b → v.tick ≡ t → notice_in o b t d ≡ Ok v
 notice_whole o b t (yes p) v x y z = ap Ok (sym (notice_same v _ x y z))
 notice_whole o b t (no q) v x y z = absurd (q (subst (λ n. n < 64) y v.blocks))
+
+pub notice_ok : (o : Outcome) (b t : ℕ) (v : Notice) → (v.letter ≡ letter_of o) × (v.block ≡ b) × (v.tick ≡ t) → Ok v ≡ notice_of o b t
+notice_ok o b t v m = sym (notice_whole o b t (dec_lt b 64) v m.0 m.1 m.2)
 
 -- what the constructor of notices answers
 pub notice_made : (o : Outcome) (b t : ℕ) (r : Result Notice ValueFault) → result_err r ≡ block_fault b
@@ -121,6 +124,9 @@ pulse_whole b p (yes d) (yes x) (yes y) v q r = ap Ok (sym (pulse_same v _ q r))
 pulse_whole b p (yes d) (yes x) (no y) v q r = absurd (y (subst (λ n. n ≤ 8) r v.few))
 pulse_whole b p (yes d) (no x) y v q r = absurd (x (subst (λ n. 1 ≤ n) r v.some))
 pulse_whole b p (no d) x y v q r = absurd (d (subst (λ n. n < 64) q v.blocks))
+
+pub pulse_ok : (b p : ℕ) (v : PulseReport) → (v.block ≡ b) × (v.pulses ≡ p) → Ok v ≡ pulse_of b p
+pulse_ok b p v m = sym (pulse_whole b p (dec_lt b 64) (dec_le 1 p) (dec_le p 8) v m.0 m.1)
 
 pub pulse_made : (b p : ℕ) (r : Result PulseReport ValueFault) → result_err r ≡ pulse_fault b p → IfOk r (λ v. (v.block ≡ b) × (v.pulses ≡ p)) → r ≡ pulse_of b p
 pulse_made b p (Ok v) e m = sym (pulse_whole b p (dec_lt b 64) (dec_le 1 p) (dec_le p 8) v m.0 m.1)

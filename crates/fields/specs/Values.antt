@@ -1,9 +1,9 @@
 -- How the fields of a notice and of a pulse report are written and read. A notice is its letter, block and tick; a pulse
 -- report its block and pulses; commas stand between. A number out of range is told only where the form is right.
 -- Assumes nothing.
-use Rattle.std.specs.Prelude.{◌≡◌, ℕ, ◌<◌, ◌≤◌, true, cond, List, ◌∷◌, ◌++◌, Some, None, Ok, Err, decimal, Option, Result, ◌==◌, refl}
+use Rattle.std.specs.Prelude.{◌≡◌, ℕ, ◌<◌, ◌≤◌, true, List, ◌∷◌, ◌++◌, Some, Ok, Err, decimal, Option, Result, refl}
 use Rattle.std.proofs.Math.Decide.{dec_lt, dec_le}
-use Rattle.values.specs.Letters.{letter_of, is_letter}
+use Rattle.values.specs.Letters.{letter_of, is_letter, outcome_by}
 use Rattle.faults.specs.declared.causes.ValueFault.{ValueFault}
 use Rattle.faults.specs.declared.causes.ValueFault.TheVariants.{Block, Pulses}
 use Rattle.values.specs.declared.notices.Notice.{Notice}
@@ -18,9 +18,6 @@ notice_shows v = v.letter ∷ 44 ∷ (decimal v.block ++ 44 ∷ decimal v.tick)
 -- a tick is at most 65535
 abbrev pub NoticeFits : Notice → Type 0
 NoticeFits v = v.tick < 65536
-
-abbrev pub outcome_by : ℕ → Option Outcome
-outcome_by c = cond (c == 70) (Some Failed) (cond (c == 80) (Some Passed) None)
 
 abbrev pub lettered : (o : Outcome) → is_letter (letter_of o) ≡ true
 lettered Failed = refl

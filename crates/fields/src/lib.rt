@@ -6,6 +6,6 @@ mod kinds;
 mod notices;
 mod pulses;
 
-pub use cuts::{cut, is_dash, keyed_line, number, same};
-pub use forms::{Form, Malformed};
+pub use cuts::{cut, is_dash, keyed_line, number};
+pub use forms::Form;
 pub use kinds::{ValueKind, Written};

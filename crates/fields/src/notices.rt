@@ -1,33 +1,14 @@
 // Notices in a text: letter, block and tick.
-ghost use Rattle.std.specs.Prelude.{◌≡◌, Some, None};
-ghost use Rattle.fields.specs.Values.{notice_shows, notice_reads, NoticeFits, notice_of, outcome_by};
+ghost use Rattle.fields.specs.Values.{notice_shows, notice_reads, NoticeFits};
 ghost use Rattle.fields.specs.declared.kinds.ValueKind.TheVariants.{Notices};
 ghost use Rattle.fields.specs.Back.{notice_back, notice_forth, notice_unbroken, notice_brief};
 ghost use Rattle.std.proofs.Common.{rules};
 
 use crate::kinds::{ValueKind, Written};
 use cuts::{letter_field, number, number_field};
-use faults::ValueFault;
 use std::alloc::{AllocError, Global};
+use text_faults::LineFault;
 use values::{Notice, Outcome};
-
-// How the erase ended, by its letter.
-fn outcome(letter: char) -> Option<Outcome>
-    ensures { result ≡ outcome_by letter }
-{
-    match letter {
-        'F' => Some(Outcome::Failed),
-        'P' => Some(Outcome::Passed),
-        _ => None,
-    }
-}
-
-// A notice of numbers that may be out of range.
-fn notice(how: Outcome, block: u16, tick: u16) -> Result<Notice, ValueFault>
-    ensures { result ≡ notice_of how block tick }
-{
-    Notice::new(how, block, tick)
-}
 
 impl Written for Notice {
     ghost kind = { Notices };
@@ -52,12 +33,13 @@ impl Written for Notice {
         ValueKind::Notices
     }
 
-    fn read(s: &[u8]) -> Option<Result<Notice, ValueFault>> {
-        let (letter, rest) = letter_field(s)?;
-        let how = outcome(letter)?;
-        let (block, rest) = number_field(rest)?;
-        let tick = number(rest)?;
-        Some(notice(how, block, tick))
+    #[tactic(auto, using(crate::specs::Back::notice_made, crate::specs::Back::notice_ok))]
+    fn read(s: &[u8]) -> Result<Notice, LineFault> {
+        let (letter, rest) = letter_field(s).ok_or(LineFault::Form)?;
+        let outcome = Outcome::try_from(letter).map_err(|_| LineFault::Form)?;
+        let (block, rest) = number_field(rest).ok_or(LineFault::Form)?;
+        let tick = number(rest).ok_or(LineFault::Form)?;
+        Ok(Notice::new(outcome, block, tick)?)
     }
 
     fn written(&self, heap: Global) -> Result<String, AllocError> {

@@ -1,22 +1,14 @@
 // Pulse reports in a text: block and pulses.
-ghost use Rattle.fields.specs.Values.{pulse_shows, pulse_reads, PulseFits, pulse_of};
+ghost use Rattle.fields.specs.Values.{pulse_shows, pulse_reads, PulseFits};
 ghost use Rattle.fields.specs.declared.kinds.ValueKind.TheVariants.{Pulses};
-ghost use Rattle.std.specs.Prelude.{◌≡◌};
 ghost use Rattle.fields.specs.Back.{pulse_back, pulse_forth, pulse_unbroken, pulse_brief};
 ghost use Rattle.std.proofs.Common.{rules};
 
 use crate::kinds::{ValueKind, Written};
 use cuts::{number, number_field};
-use faults::ValueFault;
 use std::alloc::{AllocError, Global};
+use text_faults::LineFault;
 use values::PulseReport;
-
-// A pulse report of numbers that may be out of range.
-fn report(block: u16, pulses: u16) -> Result<PulseReport, ValueFault>
-    ensures { result ≡ pulse_of block pulses }
-{
-    PulseReport::new(block, pulses)
-}
 
 impl Written for PulseReport {
     ghost kind = { Pulses };
@@ -41,10 +33,11 @@ impl Written for PulseReport {
         ValueKind::Pulses
     }
 
-    fn read(s: &[u8]) -> Option<Result<PulseReport, ValueFault>> {
-        let (block, rest) = number_field(s)?;
-        let pulses = number(rest)?;
-        Some(report(block, pulses))
+    #[tactic(auto, using(crate::specs::Back::pulse_made, crate::specs::Back::pulse_ok))]
+    fn read(s: &[u8]) -> Result<PulseReport, LineFault> {
+        let (block, rest) = number_field(s).ok_or(LineFault::Form)?;
+        let pulses = number(rest).ok_or(LineFault::Form)?;
+        Ok(PulseReport::new(block, pulses)?)
     }
 
     fn written(&self, heap: Global) -> Result<String, AllocError> {

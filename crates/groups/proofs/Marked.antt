@@ -1,10 +1,11 @@
 -- What the marks of a group are, and that somebody is correct. Assumes nothing.
-use Rattle.std.proofs.Common.{◌≡◌, ℕ, ◌^◌, ◌<◌, ◌≤◌, Bool, true, false, not, ◌&&◌, ltb, sym, refl, ap, ◌∙◌, ⊎_elim, arith}
+use Rattle.std.proofs.Common.{◌≡◌, ℕ, ◌^◌, ◌<◌, ◌≤◌, Bool, true, false, not, ◌&&◌, Some, None, Option, ltb, sym, refl, ap, ◌∙◌, ⊎_elim, arith}
 use Rattle.std.proofs.lemmas.Bool.{cases_lt, lt-ltb, ltb-true, eqb-true, and_parts, both_ways, not-false}
+use Rattle.std.specs.Option.{MatchOption}
 use Rattle.sets.specs.Sets.{has, count}
 use Rattle.sets.proofs.Counts.{count_same, count_zero, count_wider, count_all, someone}
 use Rattle.sets.proofs.Masks.{bit_high}
-use Rattle.groups.specs.Groups.{marked, correct, marks_fit}
+use Rattle.groups.specs.Groups.{marked, correct, marks_fit, Lowest}
 use Rattle.groups.specs.declared.members.Group.{Group}
 use Rattle.groups.specs.declared.members.Marks.{Marks}
 
@@ -46,3 +47,10 @@ someone_correct g =
 
 pub correct_below : (g : Group) (k : ℕ) → correct g k ≡ true → k < 16
 correct_below g k e = let few : g.n ≤ 16 = g.few in omega (arith, ltb-true k g.n (and_parts (ltb k g.n) _ e).0)
+
+-- a search that goes up from 0 finds the correct controller with the smallest number
+pub lowest_found : (g : Group) (r : Option ℕ)
+    → MatchOption r ((k : ℕ) → 0 ≤ k → k < g.n → correct g k ≡ false) (λ q. (0 ≤ q) × (q < g.n) × (correct g q ≡ true) × ((k : ℕ) → 0 ≤ k → k < q → correct g k ≡ false))
+    → (q : ℕ) × (r ≡ Some q) × Lowest g q
+lowest_found g None none = let w = someone_correct g in absurd (both_ways (correct g w.0) (none w.0 (omega arith) w.1) w.2)
+lowest_found g (Some q) first = (q, refl, (first.2, λ k l. first.3 k (omega arith) l))

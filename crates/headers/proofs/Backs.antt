@@ -5,15 +5,17 @@ use Rattle.std.proofs.lemmas.Slice.Eq.{bytes_eq-Decides}
 use Rattle.std.proofs.lemmas.Bool.{leb-true, and_parts}
 use Rattle.faults.specs.declared.causes.ValueFault.{ValueFault}
 use Rattle.faults.specs.declared.causes.ValueFault.TheVariants.{Count}
-use Rattle.cuts.specs.Cuts.{keyed}
+use Rattle.cuts.specs.Cuts.{bind, keyed}
 use Rattle.fields.specs.declared.kinds.ValueKind.{ValueKind}
 use Rattle.fields.specs.declared.kinds.ValueKind.TheVariants.{Notices, Pulses}
 use Rattle.cuts.proofs.Decimal.{decode_back}
 use Rattle.cuts.proofs.Fields.{bind_back, keyed_back}
 use Rattle.headers.specs.Headers.{bench_reads, numbered, number_reads, count_reads, carriage_reads, kind_reads}
 use Rattle.headers.specs.Lines.{line_of_carriage, line_of_kind}
-use Rattle.headers.specs.declared.CarriageKind.{CarriageKind}
-use Rattle.headers.specs.declared.CarriageKind.TheVariants.{Echo, Seal}
+use Rattle.fields.specs.Kinds.{kind_by, kind_word}
+use Rattle.headers.specs.Carriages.{carriage_by, carriage_word}
+use Rattle.headers.specs.declared.carriages.CarriageKind.{CarriageKind}
+use Rattle.headers.specs.declared.carriages.CarriageKind.TheVariants.{Echo, Seal}
 
 cond_some : {X : Type 0} (t : Bool) (x : X) (o : Option X) (y : X) → cond t (Some x) o ≡ Some y → ((t ≡ true) × (x ≡ y)) ⊎ (o ≡ Some y)
 cond_some true x o y e = inl (refl, cc)
@@ -46,26 +48,41 @@ count_back s n e =
     go m true u h f = let same : m ≡ n = cc in (h ∙ ap (λ m. codes "values=" ++ decimal m) same, omega (arith, leb-true 1 m (and_parts _ _ u).0))
     go m false u h f = let z : ◌≡◌ {A = ℕ} 0 1 = cc in absurd (omega arith)
 
+carriage_by_back : (w : List ℕ) (c : CarriageKind) → carriage_by w ≡ Some c → w ≡ carriage_word c
+carriage_by_back w c e = ⊎_elim echo rest (cond_some (bytes_eq w (codes "echo")) Echo _ _ e)
+  where
+    echo : (bytes_eq w (codes "echo") ≡ true) × (Echo ≡ c) → w ≡ carriage_word c
+    echo h = (bytes_eq-Decides w (codes "echo")).0 h.0 ∙ ap carriage_word h.1
+
+    seal : (bytes_eq w (codes "seal") ≡ true) × (Seal ≡ c) → w ≡ carriage_word c
+    seal h = (bytes_eq-Decides w (codes "seal")).0 h.0 ∙ ap carriage_word h.1
+
+    rest : cond (bytes_eq w (codes "seal")) (Some Seal) None ≡ Some c → w ≡ carriage_word c
+    rest h = ⊎_elim seal (none_some _) (cond_some (bytes_eq w (codes "seal")) Seal None _ h)
+
+kind_by_back : (w : List ℕ) (k : ValueKind) → kind_by w ≡ Some k → w ≡ kind_word k
+kind_by_back w k e = ⊎_elim notice rest (cond_some (bytes_eq w (codes "notice")) Notices _ _ e)
+  where
+    notice : (bytes_eq w (codes "notice") ≡ true) × (Notices ≡ k) → w ≡ kind_word k
+    notice h = (bytes_eq-Decides w (codes "notice")).0 h.0 ∙ ap kind_word h.1
+
+    pulse : (bytes_eq w (codes "pulse") ≡ true) × (Pulses ≡ k) → w ≡ kind_word k
+    pulse h = (bytes_eq-Decides w (codes "pulse")).0 h.0 ∙ ap kind_word h.1
+
+    rest : cond (bytes_eq w (codes "pulse")) (Some Pulses) None ≡ Some k → w ≡ kind_word k
+    rest h = ⊎_elim pulse (none_some _) (cond_some (bytes_eq w (codes "pulse")) Pulses None _ h)
+
+-- a key and a word that stands for something
+worded_back : {X : Type 0} (key s : List ℕ) (by : List ℕ → Option X) (word : X → List ℕ) → ((w : List ℕ) (x : X) → by w ≡ Some x → w ≡ word x)
+    → (x : X) → ◌≡◌ {A = Option (Result X ValueFault)} (bind (keyed key s) (λ w. bind (by w) (λ x. Some (Ok x)))) (Some (Ok x)) → s ≡ key ++ 61 ∷ word x
+worded_back key s by word back x e =
+    let a = bind_back (keyed key s) _ _ e in
+    let b = bind_back (by a.0) _ _ a.2 in
+    let same : b.0 ≡ x = cc b.2 in
+    keyed_back key s a.0 a.1 ∙ ap (λ y. key ++ 61 ∷ y) (back a.0 b.0 b.1 ∙ ap word same)
+
 pub carriage_back : (s : List ℕ) (c : CarriageKind) → carriage_reads s ≡ Some (Ok c) → s ≡ line_of_carriage c
-carriage_back s c e = ⊎_elim echo rest (cond_some (bytes_eq s (codes "carriage=echo")) (Ok Echo) _ _ e)
-  where
-    echo : (bytes_eq s (codes "carriage=echo") ≡ true) × (◌≡◌ {A = Result CarriageKind ValueFault} (Ok Echo) (Ok c)) → s ≡ line_of_carriage c
-    echo h = let same : Echo ≡ c = cc h.1 in (bytes_eq-Decides s (codes "carriage=echo")).0 h.0 ∙ ap line_of_carriage same
+carriage_back s c e = worded_back (codes "carriage") s carriage_by carriage_word carriage_by_back c e
 
-    seal : (bytes_eq s (codes "carriage=seal") ≡ true) × (◌≡◌ {A = Result CarriageKind ValueFault} (Ok Seal) (Ok c)) → s ≡ line_of_carriage c
-    seal h = let same : Seal ≡ c = cc h.1 in (bytes_eq-Decides s (codes "carriage=seal")).0 h.0 ∙ ap line_of_carriage same
-
-    rest : ◌≡◌ {A = Option (Result CarriageKind ValueFault)} (cond (bytes_eq s (codes "carriage=seal")) (Some (Ok Seal)) None) (Some (Ok c)) → s ≡ line_of_carriage c
-    rest h = ⊎_elim seal (none_some _) (cond_some (bytes_eq s (codes "carriage=seal")) (Ok Seal) None _ h)
-
-pub kind_back : (s : List ℕ) (c : ValueKind) → kind_reads s ≡ Some (Ok c) → s ≡ line_of_kind c
-kind_back s c e = ⊎_elim notice rest (cond_some (bytes_eq s (codes "kind=notice")) (Ok Notices) _ _ e)
-  where
-    notice : (bytes_eq s (codes "kind=notice") ≡ true) × (◌≡◌ {A = Result ValueKind ValueFault} (Ok Notices) (Ok c)) → s ≡ line_of_kind c
-    notice h = let same : Notices ≡ c = cc h.1 in (bytes_eq-Decides s (codes "kind=notice")).0 h.0 ∙ ap line_of_kind same
-
-    pulse : (bytes_eq s (codes "kind=pulse") ≡ true) × (◌≡◌ {A = Result ValueKind ValueFault} (Ok Pulses) (Ok c)) → s ≡ line_of_kind c
-    pulse h = let same : Pulses ≡ c = cc h.1 in (bytes_eq-Decides s (codes "kind=pulse")).0 h.0 ∙ ap line_of_kind same
-
-    rest : ◌≡◌ {A = Option (Result ValueKind ValueFault)} (cond (bytes_eq s (codes "kind=pulse")) (Some (Ok Pulses)) None) (Some (Ok c)) → s ≡ line_of_kind c
-    rest h = ⊎_elim pulse (none_some _) (cond_some (bytes_eq s (codes "kind=pulse")) (Ok Pulses) None _ h)
+pub kind_back : (s : List ℕ) (k : ValueKind) → kind_reads s ≡ Some (Ok k) → s ≡ line_of_kind k
+kind_back s k e = worded_back (codes "kind") s kind_by kind_word kind_by_back k e

@@ -12,8 +12,8 @@ use Rattle.cuts.proofs.Decimal.{decode_forth}
 use Rattle.cuts.proofs.Fields.{bind_forth, lacks_append, lacks_by, lacks_decimal, length_number}
 use Rattle.headers.specs.Headers.{bench_reads, number_reads, count_reads, carriage_reads, kind_reads, group_fault_by}
 use Rattle.headers.specs.Lines.{line_of_carriage, line_of_kind}
-use Rattle.headers.specs.declared.CarriageKind.{CarriageKind}
-use Rattle.headers.specs.declared.CarriageKind.TheVariants.{Echo, Seal}
+use Rattle.headers.specs.declared.carriages.CarriageKind.{CarriageKind}
+use Rattle.headers.specs.declared.carriages.CarriageKind.TheVariants.{Echo, Seal}
 
 -- no line feed, and at most 64 bytes
 abbrev pub OneLine : List ℕ → Type 0

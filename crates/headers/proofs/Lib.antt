@@ -3,3 +3,4 @@ pub mod MarkLists
 pub mod MarkTexts
 pub mod Backs
 pub mod Forths
+pub mod Numbers

@@ -7,6 +7,9 @@ use Rattle.std.proofs.lemmas.Bool.{cond-true, cond-false, cases_lt, leb-true, eq
 use Rattle.faults.specs.declared.causes.ValueFault.{ValueFault}
 use Rattle.faults.specs.declared.causes.ValueFault.TheVariants.{Mark}
 use Rattle.cuts.specs.Cuts.{bind, decode, on_result}
+use Rattle.text_faults.specs.Causes.{as_read}
+use Rattle.text_faults.specs.declared.lines.LineFault.{LineFault}
+use Rattle.text_faults.specs.declared.lines.LineFault.TheVariants.{Form as NoForm, Value as OutOfRange}
 use Rattle.headers.specs.Headers.{pieces, on_head, mark_put, marks_from, marks_field, empty_marks, in_table}
 use Rattle.headers.specs.Lines.{list_from, join_on, marks_shown}
 use Rattle.cuts.proofs.Decimal.{decode_back}
@@ -128,3 +131,34 @@ marks_back b t e = go (bytes_eq b (45 ∷ [])) refl e
     go false u f =
         let r = over_back (pieces b) 0 empty_marks t (omega arith) refl (λ k m. none_in k) f in
         shown b r.0 r.1 ∙ ap marks_shown (sym r.2)
+
+-- no mark is refused but for its range
+pub mark_fault : (l : ℕ) (t : List Bool) (m : ℕ) (e : ValueFault) → mark_put l t m ≡ Some (Err e) → e ≡ Mark
+mark_fault l t m e h = go (leb l m) (leb m 15) h
+  where
+    go : (a b : Bool) → ◌≡◌ {A = Option (Result (List Bool) ValueFault)} (cond a (Some (cond b (Ok (set t m true)) (Err Mark))) None) (Some (Err e)) → e ≡ Mark
+    go true true f = let z : ◌≡◌ {A = ℕ} 0 1 = cc in absurd (omega arith)
+    go true false f = cc
+    go false b f = let z : ◌≡◌ {A = ℕ} 0 1 = cc in absurd (omega arith)
+
+pub marks_fault : (fs : List (List ℕ)) (l : ℕ) (t : List Bool) (e : ValueFault) → marks_from l t fs ≡ Some (Err e) → e ≡ Mark
+marks_fault [] l t e h = let z : ◌≡◌ {A = ℕ} 0 1 = cc in absurd (omega arith)
+marks_fault (f ∷ fs) l t e h =
+    let d = bind_back (decode f) _ _ h in
+    let r = bind_back (mark_put l t d.0) _ _ d.2 in
+    go d.0 r.0 r.1 r.2 (marks_fault fs)
+  where
+    go : (m : ℕ) (x : Result (List Bool) ValueFault) → mark_put l t m ≡ Some x
+        → on_result x (λ u. marks_from (m + 1) u fs) (λ y. bind (marks_from (m + 1) t fs) (λ _. Some (Err y))) ≡ Some (Err e)
+        → ((l : ℕ) (t : List Bool) (e : ValueFault) → marks_from l t fs ≡ Some (Err e) → e ≡ Mark) → e ≡ Mark
+    go m (Ok u) p k rest = rest (m + 1) u e k
+    go m (Err y) p k rest =
+        let a = bind_back (marks_from (m + 1) t fs) _ _ k in
+        let same : y ≡ e = cc a.2 in
+        sym same ∙ mark_fault l t m y p
+
+-- a mark out of range, before a line that is refused too
+pub refused_over : (y : LineFault) (o : Option (Result (List Bool) ValueFault)) (e : ValueFault) → e ≡ Mark → ((f : ValueFault) → o ≡ Some (Err f) → f ≡ Mark) → as_read {X = List Bool} (Err y) ≡ o
+    → as_read {X = List Bool} (Err y) ≡ bind o (λ _. Some (Err e))
+refused_over NoForm o e m n h = ap (λ o. bind o (λ _. Some (Err e))) h
+refused_over (OutOfRange f) o e m n h = let same : f ≡ e = n f (sym h) ∙ sym m in ap (λ f. Some (Err f)) same ∙ ap (λ o. bind o (λ _. Some (Err e))) h

@@ -10,10 +10,10 @@ use Rattle.faults.specs.declared.causes.GroupFault.{GroupFault}
 use Rattle.faults.specs.declared.causes.GroupFault.TheVariants.{Size, Tolerance, Marks}
 use Rattle.groups.specs.Groups.{marked}
 use Rattle.cuts.specs.Cuts.{bind, decode, keyed, on_result}
-use Rattle.headers.specs.declared.CarriageKind.{CarriageKind}
-use Rattle.headers.specs.declared.CarriageKind.TheVariants.{Echo, Seal}
+use Rattle.headers.specs.Carriages.{carriage_by}
+use Rattle.headers.specs.declared.carriages.CarriageKind.{CarriageKind}
+use Rattle.fields.specs.Kinds.{kind_by}
 use Rattle.fields.specs.declared.kinds.ValueKind.{ValueKind}
-use Rattle.fields.specs.declared.kinds.ValueKind.TheVariants.{Notices, Pulses}
 use Rattle.headers.specs.declared.Header.{Header}
 
 abbrev pub bench_reads : List ℕ → Option (Result (Unit {0}) ValueFault)
@@ -30,10 +30,10 @@ abbrev pub count_reads : List ℕ → Option (Result ℕ ValueFault)
 count_reads s = bind (numbered (codes "values") s) (λ n. Some (cond (nat_le 1 n && nat_le n 4) (Ok n) (Err Count)))
 
 abbrev pub carriage_reads : List ℕ → Option (Result CarriageKind ValueFault)
-carriage_reads s = cond (bytes_eq s (codes "carriage=echo")) (Some (Ok Echo)) (cond (bytes_eq s (codes "carriage=seal")) (Some (Ok Seal)) None)
+carriage_reads s = bind (keyed (codes "carriage") s) (λ w. bind (carriage_by w) (λ c. Some (Ok c)))
 
 abbrev pub kind_reads : List ℕ → Option (Result ValueKind ValueFault)
-kind_reads s = cond (bytes_eq s (codes "kind=notice")) (Some (Ok Notices)) (cond (bytes_eq s (codes "kind=pulse")) (Some (Ok Pulses)) None)
+kind_reads s = bind (keyed (codes "kind") s) (λ w. bind (kind_by w) (λ k. Some (Ok k)))
 
 abbrev pub on_head : ℕ → List (List ℕ) → List (List ℕ)
 on_head x [] = []

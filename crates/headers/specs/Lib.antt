@@ -1,2 +1,3 @@
+pub mod Carriages
 pub mod Headers
 pub mod Lines

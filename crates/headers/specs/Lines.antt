@@ -1,9 +1,9 @@
 -- The header lines as they are written, without their line feed. Assumes nothing.
 use Rattle.std.specs.Prelude.{ℕ, zero, suc, Bool, cond, List, [], ◌∷◌, ◌++◌, map, codes, decimal}
-use Rattle.headers.specs.declared.CarriageKind.{CarriageKind}
-use Rattle.headers.specs.declared.CarriageKind.TheVariants.{Echo, Seal}
+use Rattle.headers.specs.Carriages.{carriage_word}
+use Rattle.headers.specs.declared.carriages.CarriageKind.{CarriageKind}
+use Rattle.fields.specs.Kinds.{kind_word}
 use Rattle.fields.specs.declared.kinds.ValueKind.{ValueKind}
-use Rattle.fields.specs.declared.kinds.ValueKind.TheVariants.{Notices, Pulses}
 
 -- of w numbers from k on, those that p marks
 unfoldable pub list_from : ℕ → ℕ → (ℕ → Bool) → List ℕ
@@ -28,9 +28,7 @@ unfoldable pub line_of_marks : (ℕ → Bool) → List ℕ
 line_of_marks p = codes "marks=" ++ marks_shown (list_from 16 0 p)
 
 abbrev pub line_of_carriage : CarriageKind → List ℕ
-line_of_carriage Echo = codes "carriage=echo"
-line_of_carriage Seal = codes "carriage=seal"
+line_of_carriage c = codes "carriage=" ++ carriage_word c
 
 abbrev pub line_of_kind : ValueKind → List ℕ
-line_of_kind Notices = codes "kind=notice"
-line_of_kind Pulses = codes "kind=pulse"
+line_of_kind k = codes "kind=" ++ kind_word k

@@ -1,12 +1,13 @@
 // The forms of the header lines.
-ghost use Rattle.std.specs.Prelude.{◌≡◌, ℕ, length, Some, None, codes};
-ghost use Rattle.cuts.specs.Cuts.{there};
+ghost use Rattle.std.specs.Prelude.{◌≡◌};
+ghost use Rattle.text_faults.specs.Causes.{as_read};
 ghost use Rattle.headers.specs.Headers.{bench_reads, numbered, number_reads, count_reads, carriage_reads, kind_reads, mark_put, empty_marks, marks_from, marks_reads, pieces};
 
 use crate::CarriageKind;
-use cuts::{cut, is_dash, keyed_line, number, same};
+use cuts::{cut, is_dash, keyed_line, number};
 use faults::ValueFault;
-use fields::{Form, Malformed, ValueKind};
+use fields::{Form, ValueKind};
+use text_faults::LineFault;
 
 // The first line, which is always the same.
 #[derive(Clone, Copy)]
@@ -15,19 +16,18 @@ pub struct BenchLine;
 impl Form<()> for BenchLine {
     ghost meant = { λ _. bench_reads };
 
-    fn read(&self, line: &[u8]) -> Result<Result<(), ValueFault>, Malformed> {
-        if !same(line, b"bench=1") {
-            return Err(Malformed);
+    fn read(&self, line: &[u8]) -> Result<(), LineFault> {
+        match line {
+            b"bench=1" => Ok(()),
+            _ => Err(LineFault::Form),
         }
-        Ok(Ok(()))
     }
 }
 
 fn numbered_line(line: &[u8], key: &[u8]) -> Option<u16>
     ensures { result ≡ numbered key.now line.now }
 {
-    let body = keyed_line(line, key)?;
-    number(body)
+    number(keyed_line(line, key)?)
 }
 
 // A line with a number: n or t.
@@ -39,11 +39,8 @@ pub struct NumberLine<'k> {
 impl Form<u16> for NumberLine<'_> {
     ghost meant = { λ f. number_reads f.key.now };
 
-    fn read(&self, line: &[u8]) -> Result<Result<u16, ValueFault>, Malformed> {
-        let Some(n) = numbered_line(line, self.key) else {
-            return Err(Malformed);
-        };
-        Ok(Ok(n))
+    fn read(&self, line: &[u8]) -> Result<u16, LineFault> {
+        numbered_line(line, self.key).ok_or(LineFault::Form)
     }
 }
 
@@ -54,14 +51,11 @@ pub struct CountLine;
 impl Form<u16> for CountLine {
     ghost meant = { λ _. count_reads };
 
-    fn read(&self, line: &[u8]) -> Result<Result<u16, ValueFault>, Malformed> {
-        let Some(n) = numbered_line(line, b"values") else {
-            return Err(Malformed);
-        };
-        if n < 1 || n > 4 {
-            return Ok(Err(ValueFault::Count));
+    fn read(&self, line: &[u8]) -> Result<u16, LineFault> {
+        match numbered_line(line, b"values").ok_or(LineFault::Form)? {
+            n @ 1..=4 => Ok(n),
+            _ => Err(LineFault::Value(ValueFault::Count)),
         }
-        Ok(Ok(n))
     }
 }
 
@@ -71,14 +65,9 @@ pub struct CarriageLine;
 impl Form<CarriageKind> for CarriageLine {
     ghost meant = { λ _. carriage_reads };
 
-    fn read(&self, line: &[u8]) -> Result<Result<CarriageKind, ValueFault>, Malformed> {
-        if same(line, b"carriage=echo") {
-            return Ok(Ok(CarriageKind::Echo));
-        }
-        if same(line, b"carriage=seal") {
-            return Ok(Ok(CarriageKind::Seal));
-        }
-        Err(Malformed)
+    fn read(&self, line: &[u8]) -> Result<CarriageKind, LineFault> {
+        let word = keyed_line(line, b"carriage").ok_or(LineFault::Form)?;
+        CarriageKind::try_from(word)
     }
 }
 
@@ -88,55 +77,44 @@ pub struct KindLine;
 impl Form<ValueKind> for KindLine {
     ghost meant = { λ _. kind_reads };
 
-    fn read(&self, line: &[u8]) -> Result<Result<ValueKind, ValueFault>, Malformed> {
-        if same(line, b"kind=notice") {
-            return Ok(Ok(ValueKind::Notices));
-        }
-        if same(line, b"kind=pulse") {
-            return Ok(Ok(ValueKind::Pulses));
-        }
-        Err(Malformed)
+    fn read(&self, line: &[u8]) -> Result<ValueKind, LineFault> {
+        let word = keyed_line(line, b"kind").ok_or(LineFault::Form)?;
+        ValueKind::try_from(word)
     }
-}
-
-// No controller is marked.
-fn no_marks() -> [bool; 16]
-    ensures { result ≡ empty_marks }
-{
-    [false; 16]
 }
 
 // One mark more, from `least` on.
-fn mark_in(mark: u16, least: u32, table: [bool; 16]) -> Option<Result<[bool; 16], ValueFault>>
-    ensures { result ≡ mark_put least table mark }
+fn mark_in(mark: u16, least: u32, mut table: [bool; 16]) -> Result<[bool; 16], LineFault>
+    ensures { as_read result ≡ mark_put least table mark }
 {
-    if (mark as u32) < least {
-        return None;
+    if u32::from(mark) < least {
+        return Err(LineFault::Form);
     }
     if mark > 15 {
-        return Some(Err(ValueFault::Mark));
+        return Err(LineFault::Value(ValueFault::Mark));
     }
-    let mut table = table;
     table[mark as usize] = true;
-    Some(Ok(table))
+    Ok(table)
 }
 
-// The marks of a line from `least` on, put into the table.
-fn marks_over(rest: &[u8], least: u32, table: [bool; 16]) -> Option<Result<[bool; 16], ValueFault>>
-    ensures { result ≡ marks_from least table (pieces rest.now) }
+// The marks of a line from `least` on, put into the table. A mark out of range is told only where the rest of the line has its
+// form.
+fn marks_over(rest: &[u8], least: u32, table: [bool; 16]) -> Result<[bool; 16], LineFault>
+    ensures { as_read result ≡ marks_from least table (pieces rest.now) }
 {
     let Some((field, more)) = cut(rest, b',') else {
-        let mark = number(rest)?;
+        let mark = number(rest).ok_or(LineFault::Form)?;
         return mark_in(mark, least, table);
     };
-    let mark = number(field)?;
-    let put = mark_in(mark, least, table)?;
-    match put {
-        Ok(table) => marks_over(more, mark as u32 + 1, table),
-        Err(e) => {
-            let _ = marks_over(more, mark as u32 + 1, table)?;
-            Some(Err(e))
+    let mark = number(field).ok_or(LineFault::Form)?;
+    let next = u32::from(mark) + 1;
+    match mark_in(mark, least, table) {
+        Ok(table) => marks_over(more, next, table),
+        Err(LineFault::Value(e)) => {
+            marks_over(more, next, table)?;
+            Err(LineFault::Value(e))
         }
+        Err(LineFault::Form) => Err(LineFault::Form),
     }
 }
 
@@ -147,16 +125,11 @@ pub struct MarksLine;
 impl Form<[bool; 16]> for MarksLine {
     ghost meant = { λ _. marks_reads };
 
-    fn read(&self, line: &[u8]) -> Result<Result<[bool; 16], ValueFault>, Malformed> {
-        let Some(body) = keyed_line(line, b"marks") else {
-            return Err(Malformed);
-        };
+    fn read(&self, line: &[u8]) -> Result<[bool; 16], LineFault> {
+        let body = keyed_line(line, b"marks").ok_or(LineFault::Form)?;
         if is_dash(body) {
-            return Ok(Ok(no_marks()));
+            return Ok([false; 16]);
         }
-        let Some(read) = marks_over(body, 0, no_marks()) else {
-            return Err(Malformed);
-        };
-        Ok(read)
+        marks_over(body, 0, [false; 16])
     }
 }

@@ -4,16 +4,13 @@
 use fields::ValueKind;
 use groups::Group;
 
+mod carriages;
 mod forms;
+mod joins;
 
+pub use carriages::CarriageKind;
 pub use forms::{BenchLine, CarriageLine, CountLine, KindLine, MarksLine, NumberLine};
-
-// The carriage that a campaign runs over.
-#[derive(Clone, Copy, Debug, PartialEq, Eq)]
-pub enum CarriageKind {
-    Echo,
-    Seal,
-}
+pub use joins::Listed;
 
 // What the seven header lines say; `count` values follow.
 #[derive(Clone, Copy)]

@@ -34,10 +34,9 @@ fn turn_all<C: Carriage>(bench: &mut Bench<C>, count: u16)
     requires { Turnable C.Carriage (view_of bench.old) count }
     ensures { Passed C.Carriage (view_of bench.old) count (view_of bench.new) }
 {
-    for k in 0..count {
-        let Ok(()) = bench.turn(k + 1) else {
-            unreachable()
-        };
+    // a loop, since each turn changes the bench
+    for phase in 1..count + 1 {
+        bench.turn(phase).unwrap();
     }
 }
 

@@ -36,16 +36,11 @@ pub fn two_readings<C: Carriage + Drop, K: Kind>(
     ensures refusal { result_err result ≡ first (shot_fault C.Carriage (rules_of K.Kind.same K.Kind.charge list.now) carriage order.now.sender (option_map (λ x. x.now) order.now.value)) (first (reader_at (C.Carriage.model carriage) q) (read_fault (C.Carriage.model carriage) r block)) }
     ensures same { IfOk result (λ x. (x.first ≡ x.second) × (x.first_tally ≡ x.second_tally)) }
 {
-    let mut bench = match Bench::open(carriage, list) {
-        Ok(bench) => bench,
-        Err(unopened) => return Err(unopened.fault),
-    };
+    let mut bench = Bench::open(carriage, list)?;
     play(&mut bench, list, order)?;
     let first = bench.verdict(q)?;
     let second = bench.verdict(r)?;
-    let Ok(()) = bench.close(list, 1) else {
-        unreachable()
-    };
+    bench.close(list, 1).unwrap();
     let first_tally = bench.tally(q, block)?;
     let second_tally = bench.tally(r, block)?;
     Ok(Readings {
@@ -63,7 +58,8 @@ pub struct Passage {
     pub tally: u16,
 }
 
-// Plays and closes one shot of the bench; refused as the begin and the reads are.
+// Plays and closes one shot of the bench; refused as the begin and the reads are. No struct has (list, order, q, block):
+// it would be made once for each of the two functions that use it.
 fn pass_once<C: Carriage, K: Kind>(
     bench: &mut Bench<C>,
     list: &[K],
@@ -77,9 +73,7 @@ fn pass_once<C: Carriage, K: Kind>(
     play(bench, list, order)?;
     let verdict = bench.verdict(q)?;
     let shot = bench.closed() + 1;
-    let Ok(()) = bench.close(list, shot) else {
-        unreachable()
-    };
+    bench.close(list, shot).unwrap();
     let tally = bench.tally(q, block)?;
     Ok(Passage { verdict, tally })
 }
@@ -104,17 +98,10 @@ pub fn three_shots<C: Carriage + Drop, K: Kind>(
     ensures refusal { result_err result ≡ first (shot_fault C.Carriage (rules_of K.Kind.same K.Kind.charge list.now) carriage order.now.sender (option_map (λ x. x.now) order.now.value)) (read_fault (C.Carriage.model carriage) q block) }
     ensures retires { IfOk result (λ x. Retires (rules_of K.Kind.same K.Kind.charge list.now) block x) }
 {
-    let mut bench = match Bench::open(carriage, list) {
-        Ok(bench) => bench,
-        Err(unopened) => return Err(unopened.fault),
-    };
+    let mut bench = Bench::open(carriage, list)?;
     let first = pass_once(&mut bench, list, order, q, block)?;
-    let Ok(second) = pass_once(&mut bench, list, order, q, block) else {
-        unreachable()
-    };
-    let Ok(third) = pass_once(&mut bench, list, order, q, block) else {
-        unreachable()
-    };
+    let second = pass_once(&mut bench, list, order, q, block).unwrap();
+    let third = pass_once(&mut bench, list, order, q, block).unwrap();
     Ok(Passages {
         first,
         second,

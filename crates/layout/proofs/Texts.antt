@@ -1,12 +1,8 @@
 -- A text that is read in is what would be written of the campaign. Assumes nothing.
-use Rattle.std.proofs.Common.{◌≡◌, ℕ, zero, suc, ◌<◌, ◌≤◌, Bool, true, false, cond, not, eqb, List, [], ◌∷◌, ◌++◌, length, IsErrAnd, IfOk, Some, None, Ok, Err, codes, decimal, Option, Result, sym, refl, ap, ◌∙◌, subst, append_assoc, arith, rules, length-append}
+use Rattle.std.proofs.Common.{◌≡◌, ℕ, zero, suc, ◌<◌, ◌≤◌, Bool, true, false, cond, not, eqb, List, [], ◌∷◌, ◌++◌, length, Some, None, Ok, Err, codes, decimal, Option, Result, sym, refl, ap, ◌∙◌, subst, append_assoc, arith, rules, length-append}
 use denote.Enum.Bare.{sameb, same_true}
 use Rattle.fields.specs.contracts.kinds.ValueKind.{the_type}
-use Rattle.std.proofs.lemmas.Result.{err_from_is_err_and}
-use Rattle.text_faults.specs.Faults.{Faulted}
-use Rattle.text_faults.specs.declared.errors.ReadError.{ReadError}
-use Rattle.text_faults.specs.declared.errors.ReadError.TheVariants.{Fault, Memory}
-use Rattle.reader.proofs.Chains.{then_ok, then_err}
+use Rattle.reader.proofs.Chains.{then_ok}
 use Rattle.std.proofs.lemmas.List.{append-nil, nil_from_length}
 use Rattle.std.proofs.lemmas.Bool.{cond-true, eqb-true}
 use Rattle.lists.specs.Lists.{list_fault}
@@ -19,12 +15,12 @@ use Rattle.layout.specs.Campaigns.{is_same_kind, with_acts, with_values, campaig
 use Rattle.cuts.specs.Cuts.{keyed, there, on_result}
 use Rattle.headers.specs.Headers.{bench_reads, number_reads, count_reads, carriage_reads, kind_reads, marks_reads, in_table, group_fault_by, Head}
 use Rattle.reader.specs.Heads.{grouped, group_taken, then, from_count, from_kind, from_carriage, from_marks, from_t, from_n, head_taken}
-use Rattle.reader.specs.Reading.{left, taken}
+use Rattle.reader.specs.Reading.{fault_at, left, taken}
 use Rattle.layout.specs.Render.{Told, value_lines, act_lines, render}
 use Rattle.headers.specs.Lines.{line_of_marks, line_of_carriage, line_of_kind}
 use Rattle.acts.specs.declared.Act.{Act}
 use Rattle.text_faults.specs.declared.texts.TextFault.{TextFault}
-use Rattle.text_faults.specs.declared.texts.TextFault.TheVariants.{Form, Group, List as ListAt}
+use Rattle.text_faults.specs.declared.causes.TextCause.TheVariants.{Form, Group, List as OfList}
 use Rattle.fields.specs.declared.kinds.ValueKind.{ValueKind}
 use Rattle.fields.specs.declared.kinds.ValueKind.TheVariants.{Notices, Pulses}
 use Rattle.reader.specs.declared.Reader.{Reader}
@@ -67,7 +63,7 @@ group_back n t r after m e =
     go a.0 a.1 (w.1 ∙ ap (λ s. s ++ 10 ∷ left a.1) line) (group_fault_by n t (in_table a.0)) a.3
   where
     go : (tab : List Bool) (s : Reader) → left r ≡ line_of_marks (in_table tab) ++ 10 ∷ left s → (o : Option GroupFault)
-        → ◌≡◌ {A = Result (ℕ → Bool) TextFault × Reader} (there o (λ e. (Err (Group (record { line = r.line; fault = e })), r)) (Ok (in_table tab), s)) (Ok m, after) → left r ≡ line_of_marks m ++ 10 ∷ left after
+        → ◌≡◌ {A = Result (ℕ → Bool) TextFault × Reader} (there o (λ e. (Err (fault_at r (Group e)), r)) (Ok (in_table tab), s)) (Ok m, after) → left r ≡ line_of_marks m ++ 10 ∷ left after
     go tab s h None f =
         let same = ok_same (first f) in
         h ∙ (λ i. line_of_marks (same i) ++ 10 ∷ left (second f i))
@@ -113,7 +109,7 @@ module _ {K : Type 0} (shows : K → List ℕ) (reads : List ℕ → Option (Res
       go a.0 a.1 (value_back r a.1 a.0 a.2) (list_fault same (vs ++ a.0 ∷ [])) a.3
     where
       go : (v : K) (s : Reader) → left r ≡ (codes "v=" ++ shows v) ++ 10 ∷ left s → (o : Option ListFault)
-          → ◌≡◌ {A = Result (List K) TextFault × Reader} (there o (λ e. (Err (ListAt (record { line = r.line; fault = e })), r)) (Ok (vs ++ v ∷ []), s)) (Ok ws, after)
+          → ◌≡◌ {A = Result (List K) TextFault × Reader} (there o (λ e. (Err (fault_at r (OfList e)), r)) (Ok (vs ++ v ∷ []), s)) (Ok ws, after)
           → (v : K) × (ws ≡ vs ++ v ∷ []) × (left r ≡ value_lines shows (v ∷ []) (left after))
       go v s h None f = (v, sym (ok_same (first f)), h ∙ ap (λ q. (codes "v=" ++ shows v) ++ 10 ∷ left q) (second f))
       go v s h (Some x) f = let w = first f in let z : ◌≡◌ {A = ℕ} 0 1 = cc in absurd (omega arith)
@@ -160,7 +156,7 @@ module _ {K : Type 0} (shows : K → List ℕ) (reads : List ℕ → Option (Res
       alike Pulses Pulses u = refl
 
       go : (h : Head) (s : Reader) → 1 ≤ h.count → (t : Bool) → is_same_kind h.kind kind ≡ t
-          → ◌≡◌ {A = Result (Told K) TextFault × Reader} (cond t (then (values_taken reads same h.count [] s) (with_acts reads same kind h)) (Err (Form 6), s)) (Ok c, after)
+          → ◌≡◌ {A = Result (Told K) TextFault × Reader} (cond t (then (values_taken reads same h.count [] s) (with_acts reads same kind h)) (Err (record { line = 6; cause = Form }), s)) (Ok c, after)
           → head_text h (left s) ≡ render shows kind c
       go h s l false u f = let w = first f in let z : ◌≡◌ {A = ℕ} 0 1 = cc in absurd (omega arith)
       go h s l true u f =
@@ -183,25 +179,10 @@ module _ {K : Type 0} (reads : List ℕ → Option (Result K ValueFault)) (same 
     to_values : campaign_taken reads same kind r ≡ then (values_taken reads same h.count [] s) (with_acts reads same kind h)
     to_values = then_ok (with_values reads same kind) (sym hd) ∙ cond-true _ _ _ (kinds_alike h.kind kind hk)
 
-    pub values_refused : (e : TextFault) (after : Reader) → values_taken reads same h.count [] s ≡ (Err e, after) → (campaign_taken reads same kind r).0 ≡ Err e
-    values_refused e after v = first (to_values ∙ then_err (with_acts reads same kind h) (sym v))
-
-    pub acts_refused : (vs : List K) (s₂ : Reader) → values_taken reads same h.count [] s ≡ (Ok vs, s₂) → (e : TextFault) (after : Reader)
-        → acts_taken reads (length (left s₂)) [] s₂ ≡ (Err e, after) → (campaign_taken reads same kind r).0 ≡ Err e
-    acts_refused vs s₂ v e after a = first (to_values ∙ then_ok (with_acts reads same kind h) (sym v) ∙ then_err (λ xs after. (Ok (record { n = h.n; t = h.t; marks = h.marks; carriage = h.carriage; values = vs; acts = xs }), after)) (sym a))
-
     pub campaign_made : (vs : List K) (s₂ : Reader) → values_taken reads same h.count [] s ≡ (Ok vs, s₂) → (xs : List (Act K)) (after : Reader)
         → acts_taken reads (length (left s₂)) [] s₂ ≡ (Ok xs, after)
         → campaign_taken reads same kind r ≡ (Ok (record { n = h.n; t = h.t; marks = h.marks; carriage = h.carriage; values = vs; acts = xs }), after)
     campaign_made vs s₂ v xs after a = to_values ∙ then_ok (with_acts reads same kind h) (sym v) ∙ then_ok (λ xs after. (Ok (record { n = h.n; t = h.t; marks = h.marks; carriage = h.carriage; values = vs; acts = xs }), after)) (sym a)
-
--- of an exit that is no value nothing more is said
-pub exit_made : {T E : Type 0} (Q : E → Type 0) (r : Result T E) (P : T → Type 0) → IsErrAnd r Q → IfOk r P
-exit_made Q r P b = let p = err_from_is_err_and r b in subst (λ r. IfOk r P) (sym p.1) tt
-
-pub faulted : (e : ReadError) (P Q : TextFault → Type 0) → ((t : TextFault) → P t → Q t) → Faulted e P → Faulted e Q
-faulted (Fault t) P Q f h = f t h
-faulted Memory P Q f h = tt
 
 -- what the derived comparison of kinds says
 pub same_kind : (a b : ValueKind) → false ≡ not (sameb the_type a b) → a ≡ b

@@ -10,7 +10,7 @@ use Rattle.headers.specs.Headers.{Head}
 use Rattle.reader.specs.Reading.{left, start}
 use Rattle.layout.specs.Render.{Told}
 use Rattle.text_faults.specs.declared.texts.TextFault.{TextFault}
-use Rattle.text_faults.specs.declared.texts.TextFault.TheVariants.{Form}
+use Rattle.text_faults.specs.declared.causes.TextCause.TheVariants.{Form}
 use Rattle.reader.specs.declared.Reader.{Reader}
 
 abbrev pub is_same_kind : ValueKind → ValueKind → Bool
@@ -26,7 +26,7 @@ module _ {K : Type 0} (reads : List ℕ → Option (Result K ValueFault)) where
 
     -- the kind line, the sixth, has another form in a campaign of this kind
     abbrev pub with_values : Head → Reader → Result (Told K) TextFault × Reader
-    with_values h r = cond (is_same_kind h.kind kind) (then (values_taken reads same h.count [] r) (with_acts h)) (Err (Form 6), r)
+    with_values h r = cond (is_same_kind h.kind kind) (then (values_taken reads same h.count [] r) (with_acts h)) (Err (record { line = 6; cause = Form }), r)
 
     abbrev pub campaign_taken : Reader → Result (Told K) TextFault × Reader
     campaign_taken r = then (head_taken r) with_values

@@ -2,7 +2,7 @@
 use Rattle.std.specs.Prelude.{ℕ, Bool, List, [], ◌∷◌, ◌++◌, length, codes, decimal}
 use Rattle.acts.specs.Acts.{line_of_act}
 use Rattle.acts.specs.declared.Act.{Act}
-use Rattle.headers.specs.declared.CarriageKind.{CarriageKind}
+use Rattle.headers.specs.declared.carriages.CarriageKind.{CarriageKind}
 use Rattle.headers.specs.Lines.{line_of_marks, line_of_carriage, line_of_kind}
 use Rattle.fields.specs.declared.kinds.ValueKind.{ValueKind}
 

@@ -36,11 +36,3 @@ module _ {K : Type 0} (same : K → K → Bool) where
   apart_from (x ∷ xs) e i zero d l m = absurd (omega arith)
   apart_from (x ∷ xs) e zero (suc j) d l m = lacks x xs (not-true _ (and_parts _ _ e).0) j d (omega arith)
   apart_from (x ∷ xs) e (suc i) (suc j) d l m = apart_from xs (and_parts _ _ e).1 i j d (omega arith) (omega arith)
-
-  -- the walk through a list, one value further; the code lends the later values as a part of the list
-  pub distinct_more : (xs : List K) (i : ℕ) (x : K) (r : Option ℕ) → i < length xs → x ≡ get_or xs i x → r ≡ place_of same x (take (length xs - (i + 1)) (drop (i + 1) xs))
-      → distinct same (drop i xs) ≡ (not (is_some r) && distinct same (drop (i + 1) xs))
-  distinct_more xs i x r l read found =
-      let later : take (length xs - (i + 1)) (drop (i + 1) xs) ≡ drop (i + 1) xs = take_all (length xs - (i + 1)) (drop (i + 1) xs) (omega (arith, length-drop (i + 1) xs)) in
-      let cut : drop i xs ≡ x ∷ drop (i + 1) xs = drop-cons xs i x l ∙ ap (λ y. y ∷ drop (suc i) xs) (sym read) ∙ ap (λ n. x ∷ drop n xs) (sym (add-one i)) in
-      ap (distinct same) cut ∙ ap (λ o. not (is_some o) && distinct same (drop (i + 1) xs)) (sym (found ∙ ap (place_of same x) later))

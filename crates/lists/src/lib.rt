@@ -13,12 +13,7 @@ pub fn place<K: Kind>(values: &[K], wanted: &K) -> Option<usize>
     ensures is { result ≡ place_of K.Kind.same wanted.now values.now }
     ensures first { FirstPlace K.Kind.same wanted.now values.now result }
 {
-    for (i, v) in values.iter().enumerate() {
-        if v.is_same(wanted) {
-            return Some(i);
-        }
-    }
-    None
+    values.iter().position(|v| v.is_same(wanted))
 }
 
 // Refuses a length that no value list has.
@@ -35,13 +30,10 @@ pub fn check_length(len: usize) -> Result<(), ListFault>
 fn all_distinct<K: Kind>(values: &[K]) -> bool
     ensures { result ≡ distinct K.Kind.same values.now }
 {
-    for (i, v) in values.iter().enumerate() {
-        let later = &values[i + 1..];
-        if place(later, v).is_some() {
-            return false;
-        }
+    match values {
+        [] => true,
+        [first, later @ ..] => place(later, first).is_none() && all_distinct(later),
     }
-    true
 }
 
 // Refuses what is no value list: first by its length, then for two values that are the same.

@@ -1,13 +1,13 @@
 -- Where a reader stands after a line. Assumes nothing.
-use Rattle.std.proofs.Common.{◌≡◌, ℕ, suc, ◌+◌, ◌≤◌, Bool, true, false, cond, leb, List, [], ◌∷◌, ◌++◌, length, drop, Some, None, Ok, Err, Option, Result, sym, refl, ap, ◌∙◌, add-one, arith, length-append, length-drop}
+use Rattle.std.proofs.Common.{◌≡◌, ℕ, suc, ◌+◌, ◌≤◌, Bool, true, false, cond, leb, List, [], ◌∷◌, ◌++◌, length, drop, Some, None, Ok, Err, Option, Result, sym, refl, ap, ◌∙◌, add-one, arith, length-append}
 use Rattle.std.proofs.lemmas.List.{drop-drop}
 use Rattle.std.proofs.lemmas.Bool.{cond-true, le-leb}
 use Rattle.cuts.specs.Cuts.{cut_at}
 use Rattle.cuts.specs.Cuts.{there}
 use Rattle.reader.specs.Lines.{line_in}
-use Rattle.reader.specs.Reading.{left, passed, ranged, taken}
+use Rattle.reader.specs.Reading.{fault_at, left, passed, ranged, taken}
 use Rattle.text_faults.specs.declared.texts.TextFault.{TextFault}
-use Rattle.text_faults.specs.declared.texts.TextFault.TheVariants.{Missing, Form}
+use Rattle.text_faults.specs.declared.causes.TextCause.TheVariants.{Missing, Form}
 use Rattle.reader.specs.declared.Reader.{Reader}
 use Rattle.faults.specs.declared.causes.ValueFault.{ValueFault}
 use Rattle.cuts.proofs.Fields.{bind_back, bind_forth, cut_back}
@@ -38,15 +38,6 @@ line_back s p e =
         (w, sym (ap (drop (length p.0 + 1)) w ∙ ap (λ n. drop n (p.0 ++ 10 ∷ p.1)) (add-one (length p.0)) ∙ behind p.0 p.1))
     go q false u f = let z : ◌≡◌ {A = ℕ} 0 1 = cc in absurd (omega arith)
 
--- the same behind a place of a longer text
-pub line_at : (text : List ℕ) (place : ℕ) (s line : List ℕ) → s ≡ drop place text
-    → (line_in s ≡ Some (line, drop (length line + 1) s)) × (length line + 1 ≤ length s)
-    → (line_in (drop place text) ≡ Some (line, drop (place + (length line + 1)) text)) × (place + (length line + 1) ≤ length text)
-line_at text place s line e h = (
-  ap line_in (sym e) ∙ h.0 ∙ ap (λ y. Some (line, y)) (ap (drop (length line + 1)) e ∙ drop-drop (length line + 1) place text),
-  omega (arith, h.1, ap length e, length-drop place text),
-)
-
 -- what a taken line says of the text: it stood there with its line feed, and was read
 pub taken_back : {X : Type 0} (f : List ℕ → Option (Result X ValueFault)) (r after : Reader) (x : X) → taken f r ≡ (Ok x, after)
     → (line : List ℕ) × (left r ≡ line ++ 10 ∷ left after) × (f line ≡ Some (Ok x)) × (after ≡ passed r line)
@@ -56,7 +47,7 @@ taken_back {X} f r after x e = go (line_in (left r)) refl e
     Goal = (line : List ℕ) × (left r ≡ line ++ 10 ∷ left after) × (f line ≡ Some (Ok x)) × (after ≡ passed r line)
 
     inner : (p : List ℕ × List ℕ) → line_in (left r) ≡ Some p → (o : Option (Result X ValueFault)) → f p.0 ≡ o
-        → there o (ranged r (passed r p.0)) (Err (Form r.line), r) ≡ (Ok x, after) → Goal
+        → there o (ranged r (passed r p.0)) (Err (fault_at r Form), r) ≡ (Ok x, after) → Goal
     inner p u None v h = let w = ap (λ (q : Result X TextFault × Reader). q.0) h in let z : ◌≡◌ {A = ℕ} 0 1 = cc in absurd (omega arith)
     inner p u (Some (Err y)) v h = let w = ap (λ (q : Result X TextFault × Reader). q.0) h in let z : ◌≡◌ {A = ℕ} 0 1 = cc in absurd (omega arith)
     inner p u (Some (Ok y)) v h =
@@ -66,9 +57,6 @@ taken_back {X} f r after x e = go (line_in (left r)) refl e
         let w = line_back (left r) p u in
         (p.0, w.0 ∙ ap (λ y. p.0 ++ 10 ∷ y) (w.1 ∙ drop-drop (length p.0 + 1) r.place r.text.now ∙ ap left moved), v ∙ ap (λ y. Some (Ok y)) same, sym moved)
 
-    go : (o : Option (List ℕ × List ℕ)) → line_in (left r) ≡ o → there o (λ p. there (f p.0) (ranged r (passed r p.0)) (Err (Form r.line), r)) (Err (Missing r.line), r) ≡ (Ok x, after) → Goal
+    go : (o : Option (List ℕ × List ℕ)) → line_in (left r) ≡ o → there o (λ p. there (f p.0) (ranged r (passed r p.0)) (Err (fault_at r Form), r)) (Err (fault_at r Missing), r) ≡ (Ok x, after) → Goal
     go None u h = let w = ap (λ (q : Result X TextFault × Reader). q.0) h in let z : ◌≡◌ {A = ℕ} 0 1 = cc in absurd (omega arith)
     go (Some p) u h = inner p u (f p.0) refl h
-
-pub cut_within : (text : List ℕ) (place : ℕ) (s a b : List ℕ) → s ≡ drop place text → cut_at 10 s ≡ Some (a, b) → place + (length a + 1) ≤ length text
-cut_within text place s a b e c = let w = (cut_back 10 s (a, b) c).0 in omega (arith, ap length w, length-append a (10 ∷ b), ap length e, length-drop place text)

@@ -60,4 +60,4 @@ pub moved : {X A : Type 0} {a b : Result A TextFault × Reader} (r : Result X Re
     → MatchResult r (λ x. a ≡ (Ok (f x), after)) (λ e. Faulted e (λ t. a ≡ (Err t, after)))
 moved (Ok x) f after e h = e ∙ h
 moved (Err (Fault t)) f after e h = e ∙ h
-moved (Err Memory) f after e h = tt
+moved (Err (Memory _)) f after e h = tt

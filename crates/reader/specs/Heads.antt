@@ -4,10 +4,10 @@ use Rattle.std.specs.Prelude.{ℕ, Bool, List, Ok, Err, codes, Result}
 use Rattle.cuts.specs.Cuts.{there, on_result}
 use Rattle.fields.specs.declared.kinds.ValueKind.{ValueKind}
 use Rattle.headers.specs.Headers.{bench_reads, number_reads, count_reads, carriage_reads, kind_reads, marks_reads, in_table, group_fault_by, Head}
-use Rattle.reader.specs.Reading.{taken}
+use Rattle.reader.specs.Reading.{fault_at, taken}
 use Rattle.text_faults.specs.declared.texts.TextFault.{TextFault}
-use Rattle.text_faults.specs.declared.texts.TextFault.TheVariants.{Group}
-use Rattle.headers.specs.declared.CarriageKind.{CarriageKind}
+use Rattle.text_faults.specs.declared.causes.TextCause.TheVariants.{Group}
+use Rattle.headers.specs.declared.carriages.CarriageKind.{CarriageKind}
 use Rattle.reader.specs.declared.Reader.{Reader}
 
 -- one reading after another
@@ -16,7 +16,7 @@ then p f = on_result p.0 (λ x. f x p.1) (λ e. (Err e, p.1))
 
 -- a group that cannot be made refuses the marks line
 abbrev pub grouped : ℕ → ℕ → Reader → List Bool → Reader → Result (ℕ → Bool) TextFault × Reader
-grouped n t r m after = there (group_fault_by n t (in_table m)) (λ e. (Err (Group (record { line = r.line; fault = e })), r)) (Ok (in_table m), after)
+grouped n t r m after = there (group_fault_by n t (in_table m)) (λ e. (Err (fault_at r (Group e)), r)) (Ok (in_table m), after)
 
 abbrev pub group_taken : ℕ → ℕ → Reader → Result (ℕ → Bool) TextFault × Reader
 group_taken n t r = then (taken marks_reads r) (grouped n t r)

@@ -6,9 +6,9 @@ use Rattle.acts.specs.Acts.{act_reads}
 use Rattle.cuts.specs.Cuts.{bind, keyed, there}
 use Rattle.acts.specs.declared.Act.{Act}
 use Rattle.reader.specs.Heads.{then}
-use Rattle.reader.specs.Reading.{left, taken}
+use Rattle.reader.specs.Reading.{fault_at, left, taken}
 use Rattle.text_faults.specs.declared.texts.TextFault.{TextFault}
-use Rattle.text_faults.specs.declared.texts.TextFault.TheVariants.{List as ListAt}
+use Rattle.text_faults.specs.declared.causes.TextCause.TheVariants.{List as OfList}
 use Rattle.reader.specs.declared.Reader.{Reader}
 
 module _ {K : Type 0} (reads : List ℕ → Option (Result K ValueFault)) where
@@ -18,7 +18,7 @@ module _ {K : Type 0} (reads : List ℕ → Option (Result K ValueFault)) where
   module _ (same : K → K → Bool) where
     -- a list that is none refuses its last line
     abbrev pub listed : List K → Reader → K → Reader → Result (List K) TextFault × Reader
-    listed vs r v after = there (list_fault same (vs ++ v ∷ [])) (λ e. (Err (ListAt (record { line = r.line; fault = e })), r)) (Ok (vs ++ v ∷ []), after)
+    listed vs r v after = there (list_fault same (vs ++ v ∷ [])) (λ e. (Err (fault_at r (OfList e)), r)) (Ok (vs ++ v ∷ []), after)
 
     abbrev pub last_taken : List K → Reader → Result (List K) TextFault × Reader
     last_taken vs r = then (taken value_reads r) (listed vs r)

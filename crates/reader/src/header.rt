@@ -3,25 +3,23 @@ ghost use Rattle.std.specs.Prelude.{◌≡◌, ℕ, Ok, Err, MatchResult};
 ghost use Rattle.groups.specs.Groups.{marked};
 ghost use Rattle.sets.specs.Sets.{has};
 ghost use Rattle.headers.specs.Headers.{in_table, head_of};
-ghost use Rattle.reader.specs.Heads.{group_taken, head_taken};
+ghost use Rattle.reader.specs.declared.Reader.{Reader as Lines};
+ghost use Rattle.reader.specs.Heads.{grouped, group_taken, head_taken};
 
 use crate::Reader;
-use crate::guard::Guard;
-use fields::Form;
 use groups::{Group, Marks};
 use headers::{BenchLine, CarriageLine, CountLine, Header, KindLine, MarksLine, NumberLine};
-use text_faults::{TextFault, at_line};
+use text_faults::TextFault;
 
-// The marks that a table has.
+// The marks that a table has. The form of the marks line gives a table, by which its meaning is stated.
 fn marks_of(table: [bool; 16]) -> Marks
     ensures { (k : ℕ) → has result.set k ≡ in_table table k }
 {
     let mut marks = Marks::none();
-    for k in 0..16u16 {
-        if table[k as usize] {
-            if let Ok(more) = marks.with(k) {
-                marks = more;
-            }
+    // a loop, since the marks grow by each
+    for (k, marked) in table.iter().enumerate() {
+        if *marked && let Ok(more) = marks.with(k as u16) {
+            marks = more;
         }
     }
     marks
@@ -32,17 +30,15 @@ impl Reader<'_> {
     fn group(&mut self, n: u16, t: u16) -> Result<Group, TextFault>
         ensures { MatchResult result (λ g. (group_taken n t self.old ≡ (Ok (marked g), self.new)) × (g.n ≡ n) × (g.t ≡ t)) (λ e. group_taken n t self.old ≡ (Err e, self.new)) }
     {
-        let number = self.line;
-        let text = self.text;
-        let group = {
-            let mut guard = Guard::before(&mut self.place);
-            let table = guard.read(text, &MarksLine, number)?;
-            let group = at_line(Group::new(n, t, marks_of(table)), number)?;
-            guard.accept();
-            group
-        };
-        self.line = number.saturating_add(1);
-        Ok(group)
+        let line = self.line;
+
+        // The closure's contract is written out: none is inferred where an argument is an array.
+        self.take_with(
+            &MarksLine,
+            |table: [bool; 16]| -> Result<Group, TextFault>
+                ensures { MatchResult result (λ g. ((r after : Lines) → grouped n t r table after ≡ (Ok (marked g), after)) × (g.n ≡ n) × (g.t ≡ t)) (λ e. (r after : Lines) → r.line ≡ line → grouped n t r table after ≡ (Err e, r)) }
+            { Group::new(n, t, marks_of(table)).map_err(|e| TextFault::at(line, e)) },
+        )
     }
 
     // Reads the seven header lines.

@@ -1,22 +1,17 @@
 // Reading the value list.
 ghost use Rattle.std.specs.Prelude.{◌≡◌, [], length, Ok, Err, MatchResult};
-ghost use Rattle.std.specs.Result.{result_err};
 ghost use Rattle.text_faults.specs.Faults.{Faulted};
-ghost use Rattle.reader.specs.Lists.{value_reads, last_taken, values_taken, acts_taken};
+ghost use Rattle.reader.specs.Lists.{value_reads, listed, last_taken, values_taken, acts_taken};
 ghost use Rattle.reader.specs.Reading.{left};
-ghost use Rattle.std.specs.Option.{option_map};
-ghost use Rattle.text_faults.specs.declared.texts.TextFault.TheVariants.{List};
-ghost use Rattle.lists.specs.Lists.{list_fault};
+ghost use Rattle.reader.specs.declared.Reader.{Reader as Lines};
 
 use crate::Reader;
-use crate::guard::Guard;
 use acts::Act;
 use cuts::keyed_line;
-use faults::ValueFault;
-use fields::{Form, Malformed, Written};
+use fields::{Form, Written};
 use lists::check_list;
 use std::alloc::Global;
-use text_faults::{ReadError, TextFault, at_line};
+use text_faults::{LineFault, ReadError, TextFault};
 
 // A line with a value.
 #[derive(Clone, Copy)]
@@ -25,41 +20,28 @@ struct ValueLine;
 impl<K: Written> Form<K> for ValueLine {
     ghost meant = { λ _. value_reads K.Written.reads };
 
-    fn read(&self, line: &[u8]) -> Result<Result<K, ValueFault>, Malformed> {
-        let Some(body) = keyed_line(line, b"v") else {
-            return Err(Malformed);
-        };
-        match K::read(body) {
-            Some(read) => Ok(read),
-            None => Err(Malformed),
-        }
+    fn read(&self, line: &[u8]) -> Result<K, LineFault> {
+        let body = keyed_line(line, b"v").ok_or(LineFault::Form)?;
+        K::read(body)
     }
 }
 
-// Refuses what is no value list, with a line.
-fn check_at<K: Written>(values: &[K], line: usize) -> Result<(), TextFault>
-    ensures { result_err result ≡ option_map (λ e. List (record { line = line; fault = e })) (list_fault K.Kind.same values.now) }
+// The values with one more, if they are a value list then; a line that makes none is refused.
+fn listed<K: Written + Drop>(mut values: Vec<K>, value: K, line: usize) -> Result<Vec<K>, ReadError>
+    ensures { MatchResult result (λ vs. (r after : Lines) → listed K.Written.reads K.Kind.same values.items r value after ≡ (Ok vs.items, after)) (λ e. Faulted e (λ f. (r after : Lines) → r.line ≡ line → listed K.Written.reads K.Kind.same values.items r value after ≡ (Err f, r))) }
 {
-    at_line(check_list(values), line)?;
-    Ok(())
+    values.push(value)?;
+    check_list(&values).map_err(|e| TextFault::at(line, e))?;
+    Ok(values)
 }
 
 impl Reader<'_> {
     // Reads the last v line; a list that is none refuses it.
-    fn last_value<K: Written + Drop>(&mut self, mut values: Vec<K>) -> Result<Vec<K>, ReadError>
+    fn last_value<K: Written + Drop>(&mut self, values: Vec<K>) -> Result<Vec<K>, ReadError>
         ensures { MatchResult result (λ vs. last_taken K.Written.reads K.Kind.same values.items self.old ≡ (Ok vs.items, self.new)) (λ e. Faulted e (λ f. last_taken K.Written.reads K.Kind.same values.items self.old ≡ (Err f, self.new))) }
     {
-        let number = self.line;
-        let text = self.text;
-        {
-            let mut guard = Guard::before(&mut self.place);
-            let v = guard.read(text, &ValueLine, number)?;
-            values.push(v)?;
-            check_at(&values, number)?;
-            guard.accept();
-        }
-        self.line = number.saturating_add(1);
-        Ok(values)
+        let line = self.line;
+        self.take_with(&ValueLine, |value| listed(values, value, line))
     }
 
     // Reads the v lines, as many as the header counts.
@@ -71,6 +53,7 @@ impl Reader<'_> {
         ensures { MatchResult result (λ vs. values_taken K.Written.reads K.Kind.same count [] self.old ≡ (Ok vs.items, self.new)) (λ e. Faulted e (λ f. values_taken K.Written.reads K.Kind.same count [] self.old ≡ (Err f, self.new))) }
     {
         let mut values = Vec::new(heap);
+        // a loop, since each line moves the reader and may be refused
         for _i in 1..count {
             let v = self.take(&ValueLine)?;
             values.push(v)?;
@@ -83,6 +66,7 @@ impl Reader<'_> {
         ensures { MatchResult result (λ xs. acts_taken K.Written.reads (length (left self.old)) [] self.old ≡ (Ok xs.items, self.new)) (λ e. Faulted e (λ f. acts_taken K.Written.reads (length (left self.old)) [] self.old ≡ (Err f, self.new))) }
     {
         let mut acts = Vec::new(heap);
+        // a loop, since each act moves the reader and may be refused
         while !self.at_end() {
             let a = self.act::<K>()?;
             acts.push(a)?;

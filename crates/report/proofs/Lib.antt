@@ -1,6 +1,5 @@
 pub mod Rising
 pub mod Framing
-pub mod Closing
 pub mod Passing
 pub mod Lined
 pub mod Listing

@@ -1,5 +1,6 @@
 -- What comes of a line, from what the calls answer, and that every line is one less. Assumes nothing.
 use Rattle.std.proofs.Common.{◌≡◌, ℕ, ◌+◌, ◌<◌, List, [], ◌∷◌, ◌++◌, length, Some, None, Ok, Err, Option, Result, sym, refl, ap, ◌∙◌, subst, subst₂, arith}
+use Rattle.std.specs.Result.{result_err, MatchResult}
 use Rattle.faults.specs.declared.causes.ValueFault.{ValueFault}
 use Rattle.carriage.specs.declared.meaning.Carriage.{Ghosts as Account}
 use Rattle.agreement.specs.Faults.{bench_layer, bench_number}
@@ -8,28 +9,37 @@ use Rattle.agreement.specs.Views.{View, Rules}
 use Rattle.agreement.specs.declared.bench_faults.BenchFault.{BenchFault}
 use Rattle.lines.specs.declared.happenings.Happening.{Happening}
 use Rattle.lines.specs.declared.happenings.Happening.TheVariants.{Refused}
-use Rattle.report.specs.Courses.{call_of, told_of, taken_by, refused_by, Line, unread, denied, done, LineRun, Tells, Course, begun, next}
+use Rattle.report.specs.Courses.{Outcome, call_of, told_of, taken_by, refused_by, Line, unread, denied, done, LineRun, Tells, Course, begun, next}
 use Rattle.report.specs.Texts.{act_reads, Act, line_of, text_layer, text_number, left, skipped, line_taken, TextFault, Reader}
 use Rattle.report.specs.Truth.{lines_in}
-use Rattle.report.specs.declared.courses.Outcome.{Outcome}
-use Rattle.report.specs.declared.courses.Outcome.TheVariants.{Taken, Denied}
 use Rattle.report.proofs.Passing.{refused_stays, read_skips, skip_shrinks, skip_counts}
 
 module _ {C K : Type 0} {account : Account C} {rules : Rules K} {reads : List ℕ → Option (Result K ValueFault)} where
   pub line_unread : (r s after : Reader) (v : View C) (e : TextFault) (h : Happening) → (Err e, s) ≡ line_taken (act_reads reads) r → after ≡ skipped s → h ≡ Refused (line_of e) (text_layer e) (text_number e)
-      → LineRun account rules reads r v (Denied h) after v
+      → LineRun account rules reads r v (Err h) after v
   line_unread r s after v e h is skip told =
       let stays = refused_stays (act_reads reads) r s e is in
-      subst₂ (λ (k : Happening) (x : Reader). LineRun account rules reads r v (Denied k) x v) (sym told) (sym (skip ∙ ap skipped stays)) (record { events = []; line = unread (sym is ∙ ap (λ k. (Err e, k)) stays) })
+      subst₂ (λ (k : Happening) (x : Reader). LineRun account rules reads r v (Err k) x v) (sym told) (sym (skip ∙ ap skipped stays)) (record { events = []; line = unread (sym is ∙ ap (λ k. (Err e, k)) stays) })
 
   pub line_denied : (r after : Reader) (v w : View C) (a : Act K) (e : BenchFault) (h : Happening) → (Ok a, after) ≡ line_taken (act_reads reads) r → Some e ≡ fault_of account rules v (call_of a) → w ≡ v
-      → h ≡ Refused r.line (bench_layer e) (bench_number e) → LineRun account rules reads r v (Denied h) after w
+      → h ≡ Refused r.line (bench_layer e) (bench_number e) → LineRun account rules reads r v (Err h) after w
   line_denied r after v w a e h is fault same told =
-      subst₂ (λ (k : Happening) (x : View C). LineRun account rules reads r v (Denied k) after x) (sym told) (sym same) (record { events = refused (call_of a) ∷ []; line = denied (sym is) (sym fault) })
+      subst₂ (λ (k : Happening) (x : View C). LineRun account rules reads r v (Err k) after x) (sym told) (sym same) (record { events = refused (call_of a) ∷ []; line = denied (sym is) (sym fault) })
 
   pub line_done : (r after : Reader) (v w : View C) (a : Act K) (h : Option Happening) → (Ok a, after) ≡ line_taken (act_reads reads) r → None ≡ fault_of account rules v (call_of a)
-      → Does account rules v (call_of a) w → Tells account v (call_of a) h → LineRun account rules reads r v (Taken h) after w
+      → Does account rules v (call_of a) w → Tells account v (call_of a) h → LineRun account rules reads r v (Ok h) after w
   line_done r after v w a h is fault does tells = record { events = taken (call_of a) ∷ []; line = done (sym is) (sym fault) does tells }
+
+  -- the bench's answer to the act of a line, and what is made of it
+  pub line_acted : {B : Type 0} (view : B → View C) (r after : Reader) (b d : B) (a : Act K) (p : Result (Option Happening) BenchFault) (o : Outcome)
+      → (Ok a, after) ≡ line_taken (act_reads reads) r → result_err p ≡ fault_of account rules (view b) (call_of a)
+      → MatchResult p (λ h. Does account rules (view b) (call_of a) (view d) × Tells account (view b) (call_of a) h) (λ _. d ≡ b)
+      → MatchResult p (λ h. o ≡ Ok h) (λ e. o ≡ Err (Refused r.line (bench_layer e) (bench_number e)))
+      → LineRun account rules reads r (view b) o after (view d)
+  line_acted view r after b d a (Ok h) o is fault does made =
+      subst (λ (k : Outcome). LineRun account rules reads r (view b) k after (view d)) (sym made) (line_done r after (view b) (view d) a h is fault does.0 does.1)
+  line_acted view r after b d a (Err e) o is fault same made =
+      subst (λ (k : Outcome). LineRun account rules reads r (view b) k after (view d)) (sym made) (line_denied r after (view b) (view d) a e _ is fault (ap view same) refl)
 
   -- whatever comes of a line, the reader then stands behind it
   pub line_passed : {r after : Reader} {v w : View C} {o : Outcome} {es : List (Event K)} → Line account rules reads r v o es after w → after ≡ skipped r
@@ -53,8 +63,8 @@ module _ {C K : Type 0} {account : Account C} {rules : Rules K} {reads : List �
 
 -- a line is either taken or refused
 pub counted : (o : Outcome) → taken_by o + refused_by o ≡ 1
-counted (Taken h) = refl
-counted (Denied h) = refl
+counted (Ok h) = refl
+counted (Err h) = refl
 
 module _ {C K : Type 0} {account : Account C} {rules : Rules K} {reads : List ℕ → Option (Result K ValueFault)} {r : Reader} {u : View C} where
   pub lines_counted : {told : List Happening} {es : List (Event K)} {n m : ℕ} {at : Reader} {w : View C} → Course account rules reads r u told es n m at w → n + m + lines_in (left at) ≡ lines_in (left r)

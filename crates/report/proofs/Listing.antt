@@ -10,13 +10,13 @@ use Rattle.carriage.proofs.Allowed.{no_fault}
 use Rattle.agreement.specs.Refusals.{open_fault}
 use Rattle.agreement.specs.Views.{Rules}
 use Rattle.agreement.proofs.Beginning.{first_none}
-use Rattle.report.specs.Texts.{there, value_reads, listed, last_taken, values_taken, then, line_taken, TextFault, ListAt, Reader}
+use Rattle.report.specs.Texts.{there, value_reads, listed, last_taken, values_taken, then, line_taken, TextFault, OfList, fault_at, Reader}
 
 module _ {K : Type 0} (reads : List ℕ → Option (Result K ValueFault)) (same : K → K → Bool) where
   listed_fine : (vs : List K) (r after end : Reader) (v : K) (xs : List K) → listed reads same vs r v after ≡ (Ok xs, end) → list_fault same xs ≡ None
   listed_fine vs r after end v xs h = go (list_fault same (vs ++ v ∷ [])) refl h
     where
-      go : (o : Option ListFault) → list_fault same (vs ++ v ∷ []) ≡ o → ◌≡◌ {A = Result (List K) TextFault × Reader} (there o (λ e. (Err (ListAt (record { line = r.line; fault = e })), r)) (Ok (vs ++ v ∷ []), after)) (Ok xs, end) → list_fault same xs ≡ None
+      go : (o : Option ListFault) → list_fault same (vs ++ v ∷ []) ≡ o → ◌≡◌ {A = Result (List K) TextFault × Reader} (there o (λ e. (Err (fault_at r (OfList e)), r)) (Ok (vs ++ v ∷ []), after)) (Ok xs, end) → list_fault same xs ≡ None
       go None is e = let all = ap (λ p. p.0) e in let these : vs ++ v ∷ [] ≡ xs = cc in ap (list_fault same) (sym these) ∙ is
       go (Some f) is e = let never = ap (λ p. p.0) e in let z : ◌≡◌ {A = ℕ} 0 1 = cc in absurd (omega arith)
 

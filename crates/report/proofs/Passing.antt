@@ -6,7 +6,7 @@ use Rattle.std.proofs.lemmas.List.{drop_all, drop-drop, drop_at}
 use Rattle.std.proofs.lemmas.Bool.{ne_eqb}
 use Rattle.faults.specs.declared.causes.ValueFault.{ValueFault}
 use Rattle.cuts.proofs.Fields.{cut_back}
-use Rattle.report.specs.Texts.{bind, there, cut_at, Lacks, line_in, left, next, passed, ranged, skipped, line_taken, TextFault, Missing, Form, Reader}
+use Rattle.report.specs.Texts.{bind, fault_at, there, cut_at, Lacks, line_in, left, next, passed, ranged, skipped, line_taken, TextFault, Missing, Form, Reader}
 use Rattle.report.specs.Truth.{lines_in}
 
 module _ {X : Type 0} (f : List ℕ → Option (Result X ValueFault)) (r s : Reader) (e : TextFault) where
@@ -14,14 +14,14 @@ module _ {X : Type 0} (f : List ℕ → Option (Result X ValueFault)) (r s : Rea
   by_range after (Ok x) h = let never = ap (λ p. p.0) h in let z : ◌≡◌ {A = ℕ} 0 1 = cc in absurd (omega arith)
   by_range after (Err x) h = ap (λ p. p.1) h
 
-  by_form : (after : Reader) (o : Option (Result X ValueFault)) → (Err e, s) ≡ there o (ranged r after) (Err (Form r.line), r) → s ≡ r
+  by_form : (after : Reader) (o : Option (Result X ValueFault)) → (Err e, s) ≡ there o (ranged r after) (Err (fault_at r Form), r) → s ≡ r
   by_form after None h = ap (λ p. p.1) h
   by_form after (Some x) h = by_range after x h
 
   pub refused_stays : (Err e, s) ≡ line_taken f r → s ≡ r
   refused_stays h = go (line_in (left r)) h
     where
-      go : (o : Option (List ℕ × List ℕ)) → (Err e, s) ≡ there o (λ p. there (f p.0) (ranged r (passed r p.0)) (Err (Form r.line), r)) (Err (Missing r.line), r) → s ≡ r
+      go : (o : Option (List ℕ × List ℕ)) → (Err e, s) ≡ there o (λ p. there (f p.0) (ranged r (passed r p.0)) (Err (fault_at r Form), r)) (Err (fault_at r Missing), r) → s ≡ r
       go None h = ap (λ p. p.1) h
       go (Some p) h = by_form (passed r p.0) (f p.0) h
 
@@ -34,11 +34,11 @@ module _ {X : Type 0} (f : List ℕ → Option (Result X ValueFault)) (r after :
   read_range behind (Ok y) h = ap (λ p. p.1) h
   read_range behind (Err y) h = let never = ap (λ p. p.0) h in let z : ◌≡◌ {A = ℕ} 0 1 = cc in absurd (omega arith)
 
-  read_form : (behind : Reader) (o : Option (Result X ValueFault)) → (Ok x, after) ≡ there o (ranged r behind) (Err (Form r.line), r) → after ≡ behind
+  read_form : (behind : Reader) (o : Option (Result X ValueFault)) → (Ok x, after) ≡ there o (ranged r behind) (Err (fault_at r Form), r) → after ≡ behind
   read_form behind None h = let never = ap (λ p. p.0) h in let z : ◌≡◌ {A = ℕ} 0 1 = cc in absurd (omega arith)
   read_form behind (Some y) h = read_range behind y h
 
-  read_line : (p : List ℕ × List ℕ) (short : Bool) → (Ok x, after) ≡ there (cond short (Some p) None) (λ p. there (f p.0) (ranged r (passed r p.0)) (Err (Form r.line), r)) (Err (Missing r.line), r) → after ≡ passed r p.0
+  read_line : (p : List ℕ × List ℕ) (short : Bool) → (Ok x, after) ≡ there (cond short (Some p) None) (λ p. there (f p.0) (ranged r (passed r p.0)) (Err (fault_at r Form), r)) (Err (fault_at r Missing), r) → after ≡ passed r p.0
   read_line p true h = read_form (passed r p.0) (f p.0) h
   read_line p false h = let never = ap (λ p. p.0) h in let z : ◌≡◌ {A = ℕ} 0 1 = cc in absurd (omega arith)
 
@@ -47,7 +47,7 @@ module _ {X : Type 0} (f : List ℕ → Option (Result X ValueFault)) (r after :
   read_skips h = go (cut_at 10 (left r)) h
     where
       go : (o : Option (List ℕ × List ℕ))
-          → (Ok x, after) ≡ there (bind o (λ p. cond (leb (length p.0) 64) (Some p) None)) (λ p. there (f p.0) (ranged r (passed r p.0)) (Err (Form r.line), r)) (Err (Missing r.line), r)
+          → (Ok x, after) ≡ there (bind o (λ p. cond (leb (length p.0) 64) (Some p) None)) (λ p. there (f p.0) (ranged r (passed r p.0)) (Err (fault_at r Form), r)) (Err (fault_at r Missing), r)
           → after ≡ there o (λ p. passed r p.0) (end r)
       go None h = let never = ap (λ p. p.0) h in let z : ◌≡◌ {A = ℕ} 0 1 = cc in absurd (omega arith)
       go (Some p) h = read_line p (leb (length p.0) 64) h

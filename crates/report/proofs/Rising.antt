@@ -1,22 +1,24 @@
--- Numbers that pass a test, one further. Assumes nothing.
-use Rattle.std.proofs.Common.{◌≡◌, ℕ, zero, suc, ◌+◌, ◌<◌, ◌≤◌, Bool, true, false, cond, List, [], ◌∷◌, ◌++◌, sym, refl, ap, ◌∙◌, subst, ⊎_elim, add-one, arith}
+-- Numbers that pass a test. Assumes nothing.
+use Rattle.std.proofs.Common.{◌≡◌, ℕ, zero, suc, ◌+◌, ◌<◌, ◌≤◌, Bool, true, false, cond, List, [], ◌∷◌, ◌++◌, sym, refl, ap, ◌∙◌, subst, ⊎_elim, arith}
 use Rattle.std.specs.List.{ContainsAt as Has}
 use Rattle.std.proofs.ByRecursion.{has_append_left, has_push, has_push_cases}
+use Rattle.std.specs.List.{range_with_len}
+use Rattle.std.specs.Prelude.{filter}
+use Rattle.std.proofs.lemmas.List.Elements.{filter-append}
 use Rattle.std.proofs.lemmas.List.{append-nil}
 use Rattle.std.proofs.lemmas.Bool.{cases_lt}
 use Rattle.report.specs.Pool.{risen}
 
-pub risen_none : (p : ℕ → Bool) → risen 0 p ≡ []
-unfolding risen
-risen_none p = λ i. []
+range_last : (a n : ℕ) → range_with_len a (suc n) ≡ range_with_len a n ++ (a + n) ∷ []
+range_last a zero = ap (λ m. m ∷ []) (omega arith)
+range_last a (suc n) = ap (λ ms. a ∷ ms) (range_last (a + 1) n ∙ ap (λ m. range_with_len (a + 1) n ++ m ∷ []) (omega arith))
 
-pub risen_in : (p : ℕ → Bool) (n : ℕ) (xs ys : List ℕ) → xs ≡ risen n p → p n ≡ true → ys ≡ xs ++ n ∷ [] → ys ≡ risen (n + 1) p
+-- the numbers below n, filtered
+pub filter_risen : (p : ℕ → Bool) (n : ℕ) → filter p (range_with_len 0 n) ≡ risen n p
 unfolding risen
-risen_in p n xs ys e t y = y ∙ ap (λ zs. zs ++ n ∷ []) e ∙ ap (λ b. risen n p ++ cond b (n ∷ []) []) (sym t) ∙ ap (λ k. risen k p) (sym (add-one n))
-
-pub risen_past : (p : ℕ → Bool) (n : ℕ) (xs : List ℕ) → xs ≡ risen n p → p n ≡ false → xs ≡ risen (n + 1) p
-unfolding risen
-risen_past p n xs e t = e ∙ sym (append-nil (risen n p)) ∙ ap (λ b. risen n p ++ cond b (n ∷ []) []) (sym t) ∙ ap (λ k. risen k p) (sym (add-one n))
+filter_risen p zero = refl
+filter_risen p (suc n) =
+    ap (filter p) (range_last 0 n ∙ ap (λ m. range_with_len 0 n ++ m ∷ []) (omega arith)) ∙ filter-append p (range_with_len 0 n) (n ∷ []) ∙ ap (λ ms. ms ++ cond (p n) (n ∷ []) []) (filter_risen p n)
 
 -- the numbers that rose are those below n that pass
 risen_last : (p : ℕ → Bool) (n b : ℕ) → b < suc n → n ≤ b → p b ≡ true → Has (risen n p ++ cond (p n) (n ∷ []) []) b

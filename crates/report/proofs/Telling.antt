@@ -21,14 +21,13 @@ use Rattle.report.specs.Courses.{call_of, told_of, Tells, Course, begun, next, u
 use Rattle.report.specs.Pool.{full, out_at}
 use Rattle.report.specs.Texts.{line_of, text_layer, text_number, Reader}
 use Rattle.report.specs.Truth.{verdicts_in, refusals_in, Truthful}
-use Rattle.report.specs.declared.courses.Outcome.TheVariants.{Taken}
 use Rattle.report.proofs.Counting.{verdicts_append, refusals_append, one_refusal, reverse_push, times_reverse, charged_small}
 use Rattle.report.proofs.Judging.{one_answer, run_of, all_judged}
 use Rattle.report.proofs.Lined.{lines_counted}
 use Rattle.report.proofs.Rising.{has_risen, risen_has}
 
-quiet : (told : List Happening) (h : Option Happening) → h ≡ None → told ++ told_of (Taken h) ≡ told
-quiet told h e = ap (λ x. told ++ told_of (Taken x)) e ∙ append-nil told
+quiet : (told : List Happening) (h : Option Happening) → h ≡ None → told ++ told_of (Ok h) ≡ told
+quiet told h e = ap (λ x. told ++ told_of (Ok x)) e ∙ append-nil told
 
 full_three : (x : Result ℕ BenchFault) → full x ≡ true → x ≡ Ok 3
 full_three (Ok n) e = ap Ok (eqb-true n 3 e)
@@ -37,7 +36,7 @@ full_three (Err f) e = absurd (both_ways false refl e)
 module _ {C K : Type 0} (account : Account C) where
   -- one call further: a close adds the verdict that all showed
   noted : (k : Call K) (h : Option Happening) (w : View C) (vs : List (View C)) (told : List Happening) → Tells account w k h → ((ds : List Verdict) → Shown account vs ds → ds ≡ reverse (verdicts_in told))
-      → (ds : List Verdict) → Shown account (note_close (taken k) w vs) ds → ds ≡ reverse (verdicts_in (told ++ told_of (Taken h)))
+      → (ds : List Verdict) → Shown account (note_close (taken k) w vs) ds → ds ≡ reverse (verdicts_in (told ++ told_of (Ok h)))
   noted (begin s x) h w vs told tells sofar ds shown = sofar ds shown ∙ ap (λ hs. reverse (verdicts_in hs)) (sym (quiet told h tells))
   noted (inject f) h w vs told tells sofar ds shown = sofar ds shown ∙ ap (λ hs. reverse (verdicts_in hs)) (sym (quiet told h tells))
   noted (turn k) h w vs told tells sofar ds shown = sofar ds shown ∙ ap (λ hs. reverse (verdicts_in hs)) (sym (quiet told h tells))
@@ -49,7 +48,7 @@ module _ {C K : Type 0} (account : Account C) where
       (λ i. same i ∷ sofar older shown i) ∙ sym (ap reverse last ∙ reverse_push (verdicts_in told) c.verdict)
 
   -- a call that is taken tells no refusal
-  no_refusals : (k : Call K) (h : Option Happening) (w : View C) (told : List Happening) → Tells account w k h → refusals_in (told ++ told_of (Taken h)) ≡ refusals_in told
+  no_refusals : (k : Call K) (h : Option Happening) (w : View C) (told : List Happening) → Tells account w k h → refusals_in (told ++ told_of (Ok h)) ≡ refusals_in told
   no_refusals (begin s x) h w told tells = ap refusals_in (quiet told h tells)
   no_refusals (inject f) h w told tells = ap refusals_in (quiet told h tells)
   no_refusals (turn k) h w told tells = ap refusals_in (quiet told h tells)

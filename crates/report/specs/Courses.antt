@@ -16,8 +16,6 @@ use Rattle.lines.specs.declared.happenings.Happening.{Happening}
 use Rattle.lines.specs.declared.happenings.Happening.TheVariants.{Refused, Shot}
 use Rattle.lines.specs.declared.happenings.Report.{Report}
 use Rattle.report.specs.Texts.{act_reads, letter_byte, Act, Begin, Inject, Turn, Close, Injection, line_of, text_layer, text_number, left, skipped, line_taken, TextFault, Reader}
-use Rattle.report.specs.declared.courses.Outcome.{Outcome}
-use Rattle.report.specs.declared.courses.Outcome.TheVariants.{Taken, Denied}
 
 abbrev pub frame_of : Injection → Frame
 frame_of x = record { from = x.from; to = x.to; triple = x.triple; letter = letter_byte x.letter }
@@ -29,19 +27,23 @@ call_of (Inject x) = inject (frame_of x)
 call_of (Turn k) = turn k
 call_of (Close s) = close s
 
+-- what came of a line: an act that was taken, with what is told of it if anything is, or a refusal, which is told
+abbrev pub Outcome : Type 0
+Outcome = Result (Option Happening) Happening
+
 -- what is told of a line, and how it is counted
 abbrev pub told_of : Outcome → List Happening
-told_of (Taken None) = []
-told_of (Taken (Some h)) = h ∷ []
-told_of (Denied h) = h ∷ []
+told_of (Ok None) = []
+told_of (Ok (Some h)) = h ∷ []
+told_of (Err h) = h ∷ []
 
 abbrev pub taken_by : Outcome → ℕ
-taken_by (Taken h) = 1
-taken_by (Denied h) = 0
+taken_by (Ok h) = 1
+taken_by (Err h) = 0
 
 abbrev pub refused_by : Outcome → ℕ
-refused_by (Taken h) = 0
-refused_by (Denied h) = 1
+refused_by (Ok h) = 0
+refused_by (Err h) = 1
 
 module _ {C : Type 0} (account : Account C) where
   -- of a close that is taken are told the shot, its sender, and the verdict that the lowest correct controller showed just
@@ -67,14 +69,14 @@ module _ {C K : Type 0} (account : Account C) (rules : Rules K) (reads : List �
   -- one line, from the reader and the bench before it to those after it, with the calls that it makes
   pub data Line (r : Reader) (v : View C) : Outcome → List (Event K) → Reader → View C → Type 0 where
     -- it cannot be read: it is told with the fault's own line, and skipped
-    unread : {e : TextFault} → line_taken (act_reads reads) r ≡ (Err e, r) → Line r v (Denied (Refused (line_of e) (text_layer e) (text_number e))) [] (skipped r) v
+    unread : {e : TextFault} → line_taken (act_reads reads) r ≡ (Err e, r) → Line r v (Err (Refused (line_of e) (text_layer e) (text_number e))) [] (skipped r) v
     -- the bench refuses the act, and stays as it is
     denied : {a : Act K} {after : Reader} {e : BenchFault} → line_taken (act_reads reads) r ≡ (Ok a, after) → fault_of account rules v (call_of a) ≡ Some e
-        → Line r v (Denied (Refused r.line (bench_layer e) (bench_number e))) (refused (call_of a) ∷ []) after v
+        → Line r v (Err (Refused r.line (bench_layer e) (bench_number e))) (refused (call_of a) ∷ []) after v
     -- the bench takes the act
     done : {a : Act K} {after : Reader} {w : View C} {h : Option Happening} → line_taken (act_reads reads) r ≡ (Ok a, after)
         → fault_of account rules v (call_of a) ≡ None → Does account rules v (call_of a) w → Tells account v (call_of a) h
-        → Line r v (Taken h) (taken (call_of a) ∷ []) after w
+        → Line r v (Ok h) (taken (call_of a) ∷ []) after w
 
   -- line after line: what is told, the calls with the newest first, how many acts are taken and how many lines refused. A
   -- line is there as long as the text has not ended

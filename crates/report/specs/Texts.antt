@@ -12,11 +12,11 @@ pub use Rattle.text_faults.specs.Faults.{line_of, text_layer, text_number}
 pub use Rattle.headers.specs.Headers.{head_of}
 pub use Rattle.reader.specs.Heads.{then, head_taken}
 pub use Rattle.reader.specs.Lines.{line_in}
-pub use Rattle.reader.specs.Reading.{left, next, passed, ranged, skipped, start, taken as line_taken}
+pub use Rattle.reader.specs.Reading.{fault_at, left, next, passed, ranged, skipped, start, taken as line_taken}
 pub use Rattle.text_faults.specs.declared.errors.ReadError.{ReadError}
 pub use Rattle.text_faults.specs.declared.errors.ReadError.TheVariants.{Fault}
 pub use Rattle.text_faults.specs.declared.texts.TextFault.{TextFault}
-pub use Rattle.text_faults.specs.declared.texts.TextFault.TheVariants.{Missing, Form, List as ListAt}
+pub use Rattle.text_faults.specs.declared.causes.TextCause.TheVariants.{Missing, Form, List as OfList}
 pub use Rattle.headers.specs.declared.CarriageKind.TheVariants.{Echo, Seal}
 pub use Rattle.headers.specs.declared.Header.{Header}
 pub use Rattle.reader.specs.declared.Reader.{Reader}

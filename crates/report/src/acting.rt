@@ -10,7 +10,7 @@ use agreement::BenchFault;
 use bench::Bench;
 use carriage::Carriage;
 use lines::Happening;
-use text::{Act, frame};
+use text::Act;
 use values::Kind;
 
 // Closes a shot and tells its sender and the verdict that the lowest correct controller showed before.
@@ -26,12 +26,10 @@ fn close<C: Carriage, K: Kind>(
     let shown = bench.verdict(lowest);
     let sent = bench.sender();
     bench.close(list, shot)?;
-    let Ok(verdict) = shown else { unreachable() };
-    let Some(sender) = sent else { unreachable() };
     Ok(Happening::Shot {
         shot,
-        sender,
-        verdict,
+        sender: sent.unwrap(),
+        verdict: shown.unwrap(),
     })
 }
 
@@ -50,7 +48,7 @@ pub(crate) fn perform<C: Carriage, K: Kind>(
             Ok(None)
         }
         Act::Inject(injection) => {
-            bench.inject(frame(injection))?;
+            bench.inject(injection.into())?;
             Ok(None)
         }
         Act::Turn(phase) => {

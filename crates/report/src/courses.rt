@@ -13,12 +13,8 @@ use lines::{Happening, Report};
 use std::alloc::{AllocError, Global};
 use text::{Reader, Written};
 
-// What came of a line: an act that was taken, with what is told of it, or a refusal.
-#[derive(Clone, Copy)]
-pub enum Outcome {
-    Taken(Option<Happening>),
-    Denied(Happening),
-}
+// What came of a line: an act that was taken, with what is told of it if anything is, or a refusal, which is told.
+type Outcome = Result<Option<Happening>, Happening>;
 
 // A line that is refused, as it is told.
 pub(crate) fn refusal<F: Fault>(line: usize, fault: &F) -> Happening
@@ -36,17 +32,18 @@ fn note(report: &mut Report, outcome: Outcome) -> Result<(), AllocError>
     requires { (report.old.taken < 2 ^ 64 - 1) × (report.old.refused < 2 ^ 64 - 1) }
     ensures { OnOk result ((report.new.events.items ≡ report.old.events.items ++ told_of outcome) × (report.new.taken ≡ report.old.taken + taken_by outcome) × (report.new.refused ≡ report.old.refused + refused_by outcome)) }
 {
-    match outcome {
-        Outcome::Taken(told) => {
+    let told = match outcome {
+        Ok(told) => {
             report.taken += 1;
-            if let Some(happening) = told {
-                report.events.push(happening)?;
-            }
+            told
         }
-        Outcome::Denied(happening) => {
+        Err(refusal) => {
             report.refused += 1;
-            report.events.push(happening)?;
+            Some(refusal)
         }
+    };
+    if let Some(happening) = told {
+        report.events.push(happening)?;
     }
     Ok(())
 }
@@ -64,13 +61,10 @@ fn run_line<C: Carriage, K: Written + Drop>(
         Ok(act) => act,
         Err(fault) => {
             reader.skip();
-            return Outcome::Denied(refusal(fault.line(), &fault));
+            return Err(refusal(fault.line, &fault));
         }
     };
-    match perform(bench, list, &act) {
-        Ok(told) => Outcome::Taken(told),
-        Err(fault) => Outcome::Denied(refusal(line, &fault)),
-    }
+    perform(bench, list, &act).map_err(|fault| refusal(line, &fault))
 }
 
 // Runs the acts to the end of the text.
@@ -88,6 +82,7 @@ pub(crate) fn run_acts<C: Carriage, K: Written + Drop>(
         taken: 0,
         refused: 0,
     };
+    // a loop, since each line moves the reader and changes the bench
     while !reader.at_end() {
         let outcome = run_line(bench, list, &mut reader);
         note(&mut report, outcome)?;

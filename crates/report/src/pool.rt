@@ -13,10 +13,7 @@ use std::alloc::{AllocError, Global};
 fn is_out<C: Carriage>(bench: &Bench<C>, q: u16, block: u16) -> bool
     ensures { result ≡ full (tally_answer C.Carriage (view_of bench.now) q block) }
 {
-    match bench.tally(q, block) {
-        Ok(tally) => tally == 3,
-        Err(_) => false,
-    }
+    bench.tally(q, block) == Ok(3)
 }
 
 // The blocks that are out of the pool at the lowest correct controller, rising.
@@ -27,11 +24,7 @@ pub(crate) fn out_blocks<C: Carriage>(
     ensures { IfOk result (λ v. (q : ℕ) × Lowest (model_of C.Carriage (view_of bench.now)).group q × (v.items ≡ out_at C.Carriage (view_of bench.now) q)) }
 {
     let lowest = bench.group().lowest_correct();
-    let mut out = Vec::new(heap);
-    for block in 0..64 {
-        if is_out(bench, lowest, block) {
-            out.push(block)?;
-        }
-    }
-    Ok(out)
+    (0..64)
+        .filter(|block| is_out(bench, lowest, *block))
+        .collect(heap)
 }

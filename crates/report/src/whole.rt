@@ -21,7 +21,7 @@ fn stopped(fault: TextFault, heap: Global) -> Result<Report, AllocError>
     ensures { IfOk result (Stopped fault) }
 {
     let mut events = Vec::new(heap);
-    events.push(refusal(fault.line(), &fault))?;
+    events.push(refusal(fault.line, &fault))?;
     Ok(Report {
         events,
         out: None,
@@ -36,7 +36,7 @@ fn unread(error: ReadError, heap: Global) -> Result<Report, AllocError>
 {
     match error {
         ReadError::Fault(fault) => stopped(fault, heap),
-        ReadError::Memory => Err(AllocError),
+        ReadError::Memory(e) => Err(e),
     }
 }
 
@@ -50,10 +50,7 @@ fn run_bench<C: Carriage + Drop, K: Written + Drop>(
     requires { open_fault (C.Carriage.model carriage) (rules_of K.Kind.same K.Kind.charge list.now) ≡ None }
     ensures { IfOk result (λ p. Ran C.Carriage (rules_of K.Kind.same K.Kind.charge list.now) K.Written.reads reader.entry carriage p) }
 {
-    let mut bench = match Bench::open(carriage, list) {
-        Ok(bench) => bench,
-        Err(_) => unreachable(),
-    };
+    let mut bench = Bench::open(carriage, list).unwrap();
     let mut report = run_acts(&mut bench, list, reader, heap)?;
     report.out = Some(out_blocks(&bench, heap)?);
     Ok(report)
@@ -74,15 +71,11 @@ fn run_kind<K: Written + Drop>(
     let len = list.len() as u16;
     match header.carriage {
         CarriageKind::Echo => {
-            let Ok(carriage) = Echo::new(header.group, len) else {
-                unreachable()
-            };
+            let carriage = Echo::new(header.group, len).unwrap();
             run_bench(carriage, &list, reader, heap)
         }
         CarriageKind::Seal => {
-            let Ok(carriage) = Seal::new(header.group, len) else {
-                unreachable()
-            };
+            let carriage = Seal::new(header.group, len).unwrap();
             run_bench(carriage, &list, reader, heap)
         }
     }

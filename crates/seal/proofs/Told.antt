@@ -136,12 +136,12 @@ module _ (g : Group) (len : ℕ) where
   accepts es q x c known w =
       lasts w.1 q x (or_right (has_accepted g len w.0 q x) _ (and_from _ _ known (and_from _ _ c (and_from _ _ (le-leb _ _ w.2) (how_hears w.0 q x w.3)))))
 
-pub tells_the_run : (c : Seal) → state_of c ≡ fresh_state c.group c.len → TellsTheRun c
+pub tells_the_run : (c : Seal) → state_of c ≡ fresh_state c.stage.group c.stage.len → TellsTheRun c
 tells_the_run c fresh es d run =
-    let is = (along c.group c.len fresh run).is in
+    let is = (along c.stage.group c.stage.len fresh run).is in
     record {
       phase = ap (λ s. s.phase) is;
       offered = λ x. ap (λ s. s.offered x) is;
       accepted = λ q x. ap (λ s. s.accepted q x) is;
-      words = λ q x k known. (λ e. heard c.group c.len es q x (sym (ap (λ s. s.accepted q x) is) ∙ e), λ w. ap (λ s. s.accepted q x) is ∙ accepts c.group c.len es q x k known w);
+      words = λ q x k known. (λ e. heard c.stage.group c.stage.len es q x (sym (ap (λ s. s.accepted q x) is) ∙ e), λ w. ap (λ s. s.accepted q x) is ∙ accepts c.stage.group c.stage.len es q x k known w);
     }

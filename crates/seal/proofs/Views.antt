@@ -1,6 +1,6 @@
 -- What the code does to the cells is what the step does to the state that they stand for. Assumes nothing.
-use Rattle.std.proofs.Common.{◌≡◌, ℕ, ◌+◌, ◌*◌, ◌/◌, ◌<◌, ◌≤◌, Bool, true, false, not, ◌&&◌, ◌||◌, eqb, ltb, List, length, get_or, set, sym, refl, ap, ◌∙◌, subst}
-use Rattle.std.proofs.lemmas.Bool.{lt-ltb}
+use Rattle.std.proofs.Common.{◌≡◌, ℕ, ◌+◌, ◌*◌, ◌/◌, ◌<◌, Bool, true, false, not, ◌&&◌, ◌||◌, eqb, ltb, List, get_or, set, sym, refl, ap, ◌∙◌, subst}
+use Rattle.std.proofs.lemmas.Bool.{and_right, lt-ltb}
 use Rattle.sets.specs.Sets.{has, count, size}
 use Rattle.sets.specs.declared.ControllerSet.{ControllerSet}
 use Rattle.groups.specs.Groups.{correct}
@@ -8,118 +8,116 @@ use Rattle.carriage.specs.Triples.{in_range, same_triple, slot_of}
 use Rattle.groups.specs.declared.members.Group.{Group}
 use Rattle.carriage.specs.declared.frames.Triple.{Triple}
 use Rattle.carriage.specs.declared.frames.Frame.{Frame}
+use Rattle.carriage.specs.Model.{knows}
 use Rattle.carriage.proofs.Slots.{slot_small, slot_round}
-use Rattle.carriage.proofs.Tables.{kept, added}
-use Rattle.seal.specs.State.{start_state, offer_state, inject_state, turn_state, takes, steps}
+use Rattle.carriage.proofs.Tables.{where_known, none_known, kept, added}
+use Rattle.seal.specs.State.{fresh_state, offer_state, inject_state, turn_state, takes, steps}
 use Rattle.seal.specs.Cells.{Blank, CellTurned, blank, cell_steps}
 use Rattle.seal.specs.View.{cell_of, view_of}
+use Rattle.seal.specs.Seals.{seal_model, state_of}
 use Rattle.seal.specs.declared.cells.Cell.{Cell}
+use Rattle.seal.specs.declared.sealing.Seal.{Seal}
 
-and_false : (b : Bool) → (b && false) ≡ false
-and_false true = refl
-and_false false = refl
+spread_or : (b p q : Bool) → (b && (p || q)) ≡ ((b && p) || (b && q))
+spread_or true p q = refl
+spread_or false p q = refl
 
-module _ (g : Group) (len : ℕ) where
-  -- a table of blank cells stands for a carriage just started
-  pub start_view : (phase : ℕ) (old cells : List Cell) → ((k : ℕ) → k < 384 → Blank (get_or cells k blank)) → view_of g len 1 cells ≡ start_state (view_of g len phase old)
-  start_view phase old cells empty =
-      let no_offer : (x : Triple) → (in_range g len x && (cell_of cells x).offered) ≡ false = λ x. ap (λ b. in_range g len x && b) (empty (slot_of x) (slot_small x)).offered ∙ and_false (in_range g len x) in
-      let no_accept : (q : ℕ) (x : Triple) → (in_range g len x && has (cell_of cells x).accepted q) ≡ false = λ q x. ap (λ b. in_range g len x && b) ((empty (slot_of x) (slot_small x)).accepted q) ∙ and_false (in_range g len x) in
-      let no-fresh : (q : ℕ) (x : Triple) → (in_range g len x && has (cell_of cells x).fresh q) ≡ false = λ q x. ap (λ b. in_range g len x && b) ((empty (slot_of x) (slot_small x)).fresh q) ∙ and_false (in_range g len x) in
-      let no_told : (q : ℕ) (x : Triple) → (in_range g len x && has (cell_of cells x).told q) ≡ false = λ q x. ap (λ b. in_range g len x && b) ((empty (slot_of x) (slot_small x)).told q) ∙ and_false (in_range g len x) in
-      λ i. record { group = g; len = len; phase = 1; offered = λ x. no_offer x i; accepted = λ q x. no_accept q x i; fresh = λ q x. no-fresh q x i; told = λ q x. no_told q x i }
+spread_and : (b p q : Bool) → (b && (p && not q)) ≡ ((b && p) && not (b && q))
+spread_and true p q = refl
+spread_and false p q = refl
 
-  module _ (phase : ℕ) (cells after : List Cell) (everyone : ControllerSet) (everyone-is : (k : ℕ) → has everyone k ≡ correct g k) where
-    -- at a triple in range the cell's step is the controller's; elsewhere nothing is known before or after
-    stepped_at : (b : Bool) (c d : Cell) (round q : ℕ) → (b ≡ true → CellTurned phase round everyone c d)
-        → (b && cell_steps c phase round everyone q)
-        ≡ (b && (correct g q && takes phase round ((((b && c.offered) && eqb (2 * round) (phase + 1)) || not (eqb (count 16 (λ p. b && has c.fresh p)) 0)) || (b && has c.told q))))
-    stepped_at true c d round q h = ap (λ e. e && takes phase round (((c.offered && eqb (2 * round) (phase + 1)) || not (eqb (size c.fresh) 0)) || has c.told q)) (everyone-is q)
-    stepped_at false c d round q h = refl
+-- a table of blank cells in phase 1 stands for a carriage just started
+pub fresh_view : (g h : Group) (len l phase : ℕ) → (h ≡ g) × (l ≡ len) × (phase ≡ 1) → (cell : Cell) → Blank cell → (cells : List Cell) → ((k : ℕ) (d : Cell) → k < 384 → get_or cells k d ≡ cell)
+    → view_of h l phase cells ≡ fresh_state g len
+fresh_view g h len l phase at cell empty cells all = (λ i. view_of (at.0 i) (at.1 i) (at.2 i) cells) ∙ (λ i. record {
+  group = g;
+  len = len;
+  phase = 1;
+  offered = λ x. nothing (λ c. c.offered) empty.offered x i;
+  accepted = λ q x. nothing (λ c. has c.accepted q) (empty.accepted q) x i;
+  fresh = λ q x. nothing (λ c. has c.fresh q) (empty.fresh q) x i;
+  told = λ q x. nothing (λ c. has c.told q) (empty.told q) x i;
+})
+  where
+    nothing : (f : Cell → Bool) → f cell ≡ false → (x : Triple) → (in_range g len x && f (cell_of cells x)) ≡ false
+    nothing = none_known g len blank cell cells all
 
-    pub turn_view : len ≤ 4 → ((k : ℕ) → k < 384 → CellTurned phase (k / 64 + 1) everyone (get_or cells k blank) (get_or after k blank)) → view_of g len (phase + 1) after ≡ turn_state (view_of g len phase cells)
-    turn_view few turned =
-        λ i. record { group = g; len = len; phase = phase + 1; offered = λ x. offers x i; accepted = λ q x. accepts q x i; fresh = λ q x. freshly q x i; told = λ q x. untold q x i }
+-- at a triple in range the cell's step is the controller's; elsewhere nothing is known before or after
+stepped_at : (g : Group) (phase : ℕ) (everyone : ControllerSet) (b : Bool) (c : Cell) (round q : ℕ) → has everyone q ≡ correct g q
+    → (b && cell_steps c phase round everyone q)
+    ≡ (b && (correct g q && takes phase round ((((b && c.offered) && eqb (2 * round) (phase + 1)) || not (eqb (count 16 (λ p. b && has c.fresh p)) 0)) || (b && has c.told q))))
+stepped_at g phase everyone true c round q is = ap (λ e. e && takes phase round (((c.offered && eqb (2 * round) (phase + 1)) || not (eqb (size c.fresh) 0)) || has c.told q)) is
+stepped_at g phase everyone false c round q is = refl
+
+module _ (s : Seal) where
+  abbrev g : Group
+  g = s.stage.group
+
+  abbrev len : ℕ
+  len = s.stage.len
+
+  abbrev cells : List Cell
+  cells = s.table.cells
+
+  -- every cell is turned, by the round of its triple
+  pub turn_view : (h : Group) (l phase : ℕ) → (h ≡ s.stage.group) × (l ≡ s.stage.len) × (phase ≡ s.stage.phase + 1) → (everyone : ControllerSet) → ((k : ℕ) → has everyone k ≡ correct s.stage.group k) → (after : List Cell)
+      → ((k : ℕ) → k < 384 → CellTurned s.stage.phase (k / 64 + 1) everyone (get_or s.table.cells k blank) (get_or after k blank)) → view_of h l phase after ≡ turn_state (state_of s)
+  turn_view h l phase next everyone everyone-is after turned = (λ i. view_of (next.0 i) (next.1 i) (next.2 i) after) ∙ (λ i. record {
+    group = g;
+    len = len;
+    phase = s.stage.phase + 1;
+    offered = λ x. where_known (in_range g len x) _ _ (λ e. (at x e).offered) i;
+    accepted = λ q x. accepts q x i;
+    fresh = λ q x. freshly q x i;
+    told = λ q x. (where_known (in_range g len x) _ false (λ e. (at x e).told q) ∙ and_right (in_range g len x) false refl) i;
+  })
+    where
+      at : (x : Triple) → in_range g len x ≡ true → CellTurned s.stage.phase x.round everyone (cell_of cells x) (cell_of after x)
+      at x e = subst (λ r. CellTurned s.stage.phase r everyone (cell_of cells x) (cell_of after x)) (slot_round g len s.stage.few x e) (turned (slot_of x) (slot_small x))
+
+      step_at : (q : ℕ) (x : Triple) → (in_range g len x && cell_steps (cell_of cells x) s.stage.phase x.round everyone q) ≡ steps (state_of s) q x
+      step_at q x = stepped_at g s.stage.phase everyone (in_range g len x) (cell_of cells x) x.round q (everyone-is q)
+
+      accepts : (q : ℕ) (x : Triple) → (in_range g len x && has (cell_of after x).accepted q) ≡ (turn_state (state_of s)).accepted q x
+      accepts q x = where_known (in_range g len x) _ _ (λ e. (at x e).accepted q) ∙ spread_or (in_range g len x) _ _ ∙ ap (λ z. (in_range g len x && has (cell_of cells x).accepted q) || z) (step_at q x)
+
+      freshly : (q : ℕ) (x : Triple) → (in_range g len x && has (cell_of after x).fresh q) ≡ (turn_state (state_of s)).fresh q x
+      freshly q x = where_known (in_range g len x) _ _ (λ e. (at x e).fresh q) ∙ spread_and (in_range g len x) _ _ ∙ ap (λ z. z && not (in_range g len x && has (cell_of cells x).accepted q)) (step_at q x)
+
+  -- the cell of one triple is written
+  module _ (x : Triple) (known : knows (seal_model s) x ≡ true) (new : Cell) (after : List Cell) (written : after ≡ set s.table.cells (slot_of x) new) where
+    same : (f : Cell → Bool) → f new ≡ f (cell_of cells x) → (y : Triple) → (in_range g len y && f (cell_of after y)) ≡ (in_range g len y && f (cell_of cells y))
+    same = kept g len blank cells s.table.long x new after written
+
+    more : (f : Cell → Bool) (b : Bool) → f new ≡ (b || f (cell_of cells x)) → (y : Triple)
+        → (in_range g len y && f (cell_of after y)) ≡ ((b && same_triple x y) || (in_range g len y && f (cell_of cells y)))
+    more = added g len blank cells s.table.long x new after written s.stage.few known
+
+    pub offer_view : new ≡ record (cell_of cells x) { offered = true } → view_of g len s.stage.phase after ≡ offer_state (state_of s) x
+    offer_view is = λ i. record {
+      group = g;
+      len = len;
+      phase = s.stage.phase;
+      offered = λ y. more (λ c. c.offered) true (ap (λ c. c.offered) is) y i;
+      accepted = λ q y. same (λ c. has c.accepted q) (ap (λ c. has c.accepted q) is) y i;
+      fresh = λ q y. same (λ c. has c.fresh q) (ap (λ c. has c.fresh q) is) y i;
+      told = λ q y. same (λ c. has c.told q) (ap (λ c. has c.told q) is) y i;
+    }
+
+    pub inject_view : (f : Frame) → f.triple ≡ x → f.to < 16
+        → (new.offered ≡ (cell_of cells x).offered) × (new.accepted ≡ (cell_of cells x).accepted) × (new.fresh ≡ (cell_of cells x).fresh) × ((q : ℕ) → has new.told q ≡ ((ltb f.to 16 && eqb q f.to) || has (cell_of cells x).told q))
+        → view_of g len s.stage.phase after ≡ inject_state (state_of s) f
+    inject_view f at small is = λ i. record {
+      group = g;
+      len = len;
+      phase = s.stage.phase;
+      offered = λ y. same (λ c. c.offered) is.0 y i;
+      accepted = λ q y. same (λ c. has c.accepted q) (ap (λ a. has a q) is.1) y i;
+      fresh = λ q y. same (λ c. has c.fresh q) (ap (λ a. has a q) is.2) y i;
+      told = λ q y. tells q y i;
+    }
       where
-        at : (x : Triple) → in_range g len x ≡ true → CellTurned phase x.round everyone (cell_of cells x) (cell_of after x)
-        at x e = subst (λ r. CellTurned phase r everyone (cell_of cells x) (cell_of after x)) (slot_round g len few x e) (turned (slot_of x) (slot_small x))
-
-        -- an equation that is wanted of triples in range only
-        guard : (b : Bool) (p q : Bool) → (b ≡ true → p ≡ q) → (b && p) ≡ (b && q)
-        guard true p q h = h refl
-        guard false p q h = refl
-
-        spread_or : (b p q : Bool) → (b && (p || q)) ≡ ((b && p) || (b && q))
-        spread_or true p q = refl
-        spread_or false p q = refl
-
-        spread_and : (b p q : Bool) → (b && (p && not q)) ≡ ((b && p) && not (b && q))
-        spread_and true p q = refl
-        spread_and false p q = refl
-
-        step_at : (q : ℕ) (x : Triple) → (in_range g len x && cell_steps (cell_of cells x) phase x.round everyone q) ≡ steps (view_of g len phase cells) q x
-        step_at q x = stepped_at (in_range g len x) (cell_of cells x) (cell_of after x) x.round q (at x)
-
-        offers : (x : Triple) → (in_range g len x && (cell_of after x).offered) ≡ (in_range g len x && (cell_of cells x).offered)
-        offers x = guard (in_range g len x) _ _ (λ e. (at x e).offered)
-
-        accepts : (q : ℕ) (x : Triple) → (in_range g len x && has (cell_of after x).accepted q) ≡ (turn_state (view_of g len phase cells)).accepted q x
-        accepts q x = guard (in_range g len x) _ _ (λ e. (at x e).accepted q) ∙ spread_or (in_range g len x) _ _ ∙ ap (λ z. (in_range g len x && has (cell_of cells x).accepted q) || z) (step_at q x)
-
-        freshly : (q : ℕ) (x : Triple) → (in_range g len x && has (cell_of after x).fresh q) ≡ (turn_state (view_of g len phase cells)).fresh q x
-        freshly q x = guard (in_range g len x) _ _ (λ e. (at x e).fresh q) ∙ spread_and (in_range g len x) _ _ ∙ ap (λ z. z && not (in_range g len x && has (cell_of cells x).accepted q)) (step_at q x)
-
-        untold : (q : ℕ) (x : Triple) → (in_range g len x && has (cell_of after x).told q) ≡ false
-        untold q x = guard (in_range g len x) _ false (λ e. (at x e).told q) ∙ and_false (in_range g len x)
-
-  module _ (few : len ≤ 4) (phase : ℕ) (cells : List Cell) (long : length cells ≡ 384) (x : Triple) (known : in_range g len x ≡ true) (new : Cell) where
-    pub offer_view : new.offered ≡ true → new.accepted ≡ (cell_of cells x).accepted → new.fresh ≡ (cell_of cells x).fresh → new.told ≡ (cell_of cells x).told
-        → view_of g len phase (set cells (slot_of x) new) ≡ offer_state (view_of g len phase cells) x
-    offer_view is same-accepted same-fresh same-told =
-        λ i. record {
-          group = g;
-          len = len;
-          phase = phase;
-          offered = λ y. added g len few blank cells long x known new (λ c. c.offered) true is y i;
-          accepted = λ q y. kept g len blank cells long x new (λ c. has c.accepted q) (ap (λ s. has s q) same-accepted) y i;
-          fresh = λ q y. kept g len blank cells long x new (λ c. has c.fresh q) (ap (λ s. has s q) same-fresh) y i;
-          told = λ q y. kept g len blank cells long x new (λ c. has c.told q) (ap (λ s. has s q) same-told) y i;
-        }
-
-    pub inject_view : (f : Frame) → f.triple ≡ x → new.offered ≡ (cell_of cells x).offered → new.accepted ≡ (cell_of cells x).accepted → new.fresh ≡ (cell_of cells x).fresh
-        → ((q : ℕ) → has new.told q ≡ (eqb q f.to || has (cell_of cells x).told q)) → view_of g len phase (set cells (slot_of x) new) ≡ inject_state (view_of g len phase cells) f
-    inject_view f at same-offered same-accepted same-fresh is =
-        λ i. record {
-          group = g;
-          len = len;
-          phase = phase;
-          offered = λ y. kept g len blank cells long x new (λ c. c.offered) same-offered y i;
-          accepted = λ q y. kept g len blank cells long x new (λ c. has c.accepted q) (ap (λ s. has s q) same-accepted) y i;
-          fresh = λ q y. kept g len blank cells long x new (λ c. has c.fresh q) (ap (λ s. has s q) same-fresh) y i;
-          told = λ q y. told q y i;
-        }
-      where
-        told : (q : ℕ) (y : Triple) → (in_range g len y && has (cell_of (set cells (slot_of x) new) y).told q) ≡ ((eqb q f.to && same_triple f.triple y) || (in_range g len y && has (cell_of cells y).told q))
-        told q y = added g len few blank cells long x known new (λ c. has c.told q) (eqb q f.to) (is q) y ∙ ap (λ z. (eqb q f.to && same_triple z y) || (in_range g len y && has (cell_of cells y).told q)) (sym at)
-
--- the cells that the code writes, at the number that it computed
-abbrev pub offered_cell : List Cell → ℕ → Cell
-offered_cell cells k = record { offered = true; accepted = (get_or cells k blank).accepted; fresh = (get_or cells k blank).fresh; told = (get_or cells k blank).told }
-
-abbrev pub told_cell : List Cell → ℕ → ControllerSet → Cell
-told_cell cells k told = record { offered = (get_or cells k blank).offered; accepted = (get_or cells k blank).accepted; fresh = (get_or cells k blank).fresh; told = told }
-
-module _ (g : Group) (len : ℕ) (few : len ≤ 4) (phase : ℕ) (cells : List Cell) (long : length cells ≡ 384) where
-  pub offer_call : (x : Triple) (k : ℕ) → in_range g len x ≡ true → k ≡ slot_of x → view_of g len phase (set cells k (offered_cell cells k)) ≡ offer_state (view_of g len phase cells) x
-  offer_call x k known at =
-      subst (λ j. view_of g len phase (set cells j (offered_cell cells j)) ≡ offer_state (view_of g len phase cells) x) (sym at)
-      (offer_view g len few phase cells long x known (offered_cell cells (slot_of x)) refl refl refl refl)
-
-  pub inject_call : (f : Frame) (k : ℕ) (told : ControllerSet) → in_range g len f.triple ≡ true → k ≡ slot_of f.triple → f.to < 16
-      → ((q : ℕ) → has told q ≡ ((ltb f.to 16 && eqb q f.to) || has (get_or cells k blank).told q))
-      → view_of g len phase (set cells k (told_cell cells k told)) ≡ inject_state (view_of g len phase cells) f
-  inject_call f k told known at small adds =
-      subst (λ j. ((q : ℕ) → has told q ≡ ((ltb f.to 16 && eqb q f.to) || has (get_or cells j blank).told q)) → view_of g len phase (set cells j (told_cell cells j told)) ≡ inject_state (view_of g len phase cells) f) (sym at)
-      (λ added. inject_view g len few phase cells long f.triple known (told_cell cells (slot_of f.triple) told) f refl refl refl refl
-      (λ q. added q ∙ ap (λ b. (b && eqb q f.to) || has (get_or cells (slot_of f.triple) blank).told q) (lt-ltb f.to 16 small)))
-      adds
+        tells : (q : ℕ) (y : Triple) → (in_range g len y && has (cell_of after y).told q) ≡ ((eqb q f.to && same_triple f.triple y) || (in_range g len y && has (cell_of cells y).told q))
+        tells q y =
+            more (λ c. has c.told q) (eqb q f.to) (is.3 q ∙ ap (λ b. (b && eqb q f.to) || has (cell_of cells x).told q) (lt-ltb f.to 16 small)) y
+            ∙ ap (λ z. (eqb q f.to && same_triple z y) || (in_range g len y && has (cell_of cells y).told q)) (sym at)

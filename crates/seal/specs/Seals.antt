@@ -13,7 +13,7 @@ use Rattle.seal.specs.View.{view_of}
 use Rattle.seal.specs.declared.sealing.Seal.{Seal}
 
 abbrev pub state_of : Seal → State
-state_of c = view_of c.group c.len c.phase c.cells
+state_of c = view_of c.stage.group c.stage.len c.stage.phase c.table.cells
 
 abbrev pub seal_model : Seal → Model
 seal_model c = model_of (state_of c)

@@ -69,4 +69,4 @@ pub record Says (g : Group) (len : ℕ) (es : List Event) (c : Seal) : Type 0 wh
 
 -- after every run from a carriage just made
 abbrev pub TellsTheRun : Seal → Type 0
-TellsTheRun c = (es : List Event) (d : Seal) → Ran seal_account c es d → Says c.group c.len es d
+TellsTheRun c = (es : List Event) (d : Seal) → Ran seal_account c es d → Says c.stage.group c.stage.len es d

@@ -1,12 +1,10 @@
 // What the table keeps for one triple, and what a turn makes of it.
-ghost use Rattle.std.specs.Prelude.{◌≡◌, ℕ, ◌+◌, ◌/◌, ◌<◌, ◌&&◌, length, slice_index_or};
-ghost use Rattle.seal.specs.Cells.{Blank, CellTurned, blank, cell_hears};
+ghost use Rattle.std.specs.Prelude.{◌≡◌, ℕ, ◌&&◌};
+ghost use Rattle.seal.specs.Cells.{Blank, CellTurned, cell_hears};
 ghost use Rattle.sets.specs.Sets.{has};
 
+use carriage::Timing;
 use sets::ControllerSet;
-
-// How many triples there can be: 16 origins, 4 places, 6 rounds.
-pub const SLOTS: usize = 384;
 
 #[derive(Clone, Copy)]
 pub struct Cell {
@@ -33,24 +31,22 @@ impl Cell {
     }
 
     // The controllers that hear the seal in this phase, of those in `correct`.
-    fn hearers(self, phase: u16, round: u16, correct: ControllerSet) -> ControllerSet
-        requires { (phase < 100) × (round < 100) }
-        ensures { (q : ℕ) → has result q ≡ (has correct q && cell_hears self phase round q) }
+    fn hearers(self, now: Timing, correct: ControllerSet) -> ControllerSet
+        ensures { (q : ℕ) → has result q ≡ (has correct q && cell_hears self now.phase now.round q) }
     {
-        if self.offered && 2 * round == phase + 1 || !self.fresh.is_empty() {
+        if self.offered && now.is_first() || !self.fresh.is_empty() {
             correct
         } else {
             self.told.intersection(correct)
         }
     }
 
-    // The cell after the turn of `phase`, where `correct` take their steps.
-    fn turned(self, phase: u16, round: u16, correct: ControllerSet) -> Cell
-        requires { (phase < 100) × (round < 100) }
-        ensures { CellTurned phase round correct self result }
+    // The cell after the turn of a phase, where `correct` take their steps.
+    pub(crate) fn turned(self, now: Timing, correct: ControllerSet) -> Cell
+        ensures { CellTurned now.phase now.round correct self result }
     {
-        let takers = if 2 * round <= phase + 1 {
-            self.hearers(phase, round, correct)
+        let takers = if now.has_begun() {
+            self.hearers(now, correct)
         } else {
             ControllerSet::empty()
         };
@@ -60,23 +56,5 @@ impl Cell {
             fresh: takers.without(self.accepted),
             told: ControllerSet::empty(),
         }
-    }
-}
-
-pub(crate) fn blank_cells() -> [Cell; SLOTS]
-    ensures { ((k : ℕ) → k < 384 → Blank (slice_index_or result k blank)) × (length result ≡ 384) }
-{
-    let cell = Cell::blank();
-    [cell; SLOTS]
-}
-
-// Turns every cell; a cell's number tells the round of its triple.
-pub(crate) fn turn_cells(cells: &mut [Cell; SLOTS], phase: u16, correct: ControllerSet)
-    requires { phase < 100 }
-    ensures { (k : ℕ) → k < 384 → CellTurned phase (k / 64 + 1) correct (slice_index_or cells.old k blank) (slice_index_or cells.new k blank) }
-{
-    for k in 0..SLOTS {
-        let round = (k / 64 + 1) as u16;
-        cells[k] = cells[k].turned(phase, round, correct);
     }
 }

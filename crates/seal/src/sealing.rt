@@ -1,23 +1,15 @@
-// The carriage itself: a group, a list length, the current phase and a cell for each triple.
-ghost use Rattle.std.specs.Prelude.{◌≤◌};
-ghost use Rattle.carriage.specs.Model.{end_phase};
+// The carriage itself: the stage that it is at, and a cell for each triple.
 ghost use Rattle.seal.specs.Sound.{Sound};
 ghost use Rattle.seal.specs.View.{view_of};
 
-use crate::cells::{Cell, SLOTS};
-use groups::Group;
+use crate::cells::Cell;
+use carriage::{Stage, Table};
 
 mod calls;
 
 #[derive(Drop)]
 pub struct Seal {
-    group: Group,
-    len: u16,
-    phase: u16,
-    cells: [Cell; SLOTS],
-    ghost some: { 1 ≤ len },
-    ghost few: { len ≤ 4 },
-    ghost begun: { 1 ≤ phase },
-    ghost ends: { phase ≤ end_phase group },
-    ghost sound: { ∥ Sound (view_of group len phase cells) ∥₁ },
+    stage: Stage,
+    table: Table<Cell>,
+    ghost sound: { ∥ Sound (view_of stage.group stage.len stage.phase table.cells) ∥₁ },
 }

@@ -2,7 +2,7 @@
 // by single machine instructions. A number of 16 or more is in no set.
 #![tactic(auto)]
 
-ghost use Rattle.std.specs.Prelude.{◌≡◌, ℕ, false, not, ◌&&◌, ◌||◌, ◌==◌, nat_lt};
+ghost use Rattle.std.specs.Prelude.{◌≡◌, ℕ, true, false, not, ◌&&◌, ◌||◌, ◌==◌, nat_lt};
 ghost use Rattle.sets.specs.Sets.{has, size};
 
 #[derive(Clone, Copy, Debug, PartialEq, Eq)]
@@ -68,6 +68,22 @@ impl ControllerSet {
         ControllerSet {
             bits: self.bits ^ (self.bits & other.bits),
         }
+    }
+
+    // The members of this set that pass a test.
+    pub fn filter<F: Fn(u16) -> bool>(self, passes: F) -> ControllerSet
+        requires { (q : ℕ) → has self q ≡ true → F.pre passes q }
+        ensures member { (q : ℕ) → has self q ≡ true → F.post passes q (has result q) }
+        ensures other { (q : ℕ) → has self q ≡ false → has result q ≡ false }
+    {
+        let mut kept = ControllerSet::empty();
+        // a loop over all numbers that a set may hold: nothing lists its members
+        for q in 0..16u16 {
+            if self.contains(q) && passes(q) {
+                kept = kept.with(q);
+            }
+        }
+        kept
     }
 
     // How many controllers are in the set.

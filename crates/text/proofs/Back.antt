@@ -1,6 +1,5 @@
 -- What is written of a campaign is read back as that campaign. Assumes nothing.
-use Rattle.std.proofs.Common.{◌≡◌, ℕ, ◌≤◌, Bool, List, [], ◌∷◌, ◌++◌, length, take, Some, None, Ok, vec_items, Option, Result, ◌∙◌, arith}
-use Rattle.std.proofs.lemmas.List.{take-append-le, take_all}
+use Rattle.std.proofs.Common.{◌≡◌, ℕ, ◌≤◌, Bool, List, [], ◌∷◌, length, Some, None, Ok, vec_items, Option, Result, ◌∙◌, arith}
 use Rattle.std.specs.List.{AllByRecursion}
 use Rattle.lists.specs.Lists.{list_fault}
 use Rattle.faults.specs.declared.causes.ValueFault.{ValueFault}
@@ -32,7 +31,3 @@ module _ {K : Type 0} (shows : K → List ℕ) (reads : List ℕ → Option (Res
             values_fit = vs;
             acts_fit = xs;
           }
-
--- the front of a buffer that a text was written to
-pub front : (n : ℕ) (a b t : List ℕ) → n ≡ length a → a ≡ t → take n (a ++ b) ≡ t
-front n a b t e is = take-append-le n a b (omega arith) ∙ take_all n a (omega arith) ∙ is

@@ -3,9 +3,9 @@
 
 mod campaigns;
 
-pub use acts::{Act, Injection, Letter, act_line, frame};
+pub use acts::{Act, Injection, Letter, act_line};
 pub use campaigns::{Campaign, read, rendered, write};
-pub use fields::{Form, Malformed, ValueKind, Written};
+pub use fields::{Form, ValueKind, Written};
 pub use headers::{CarriageKind, Header};
 pub use reader::Reader;
-pub use text_faults::{At, ReadError, TextFault, WriteError, WriteFault};
+pub use text_faults::{LineFault, ReadError, TextCause, TextFault, WriteError, WriteFault};

@@ -7,7 +7,7 @@ fn answer(text: &[u8]) -> (usize, u16) {
     let mut reader = Reader::new(text);
     match reader.header() {
         Ok(_) => (0, 0),
-        Err(e) => (e.line(), e.number()),
+        Err(e) => (e.line, e.number()),
     }
 }
 

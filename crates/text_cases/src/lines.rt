@@ -1,23 +1,23 @@
 // Lines of acts, and where a reader stands after a refused one.
 use faults::Fault;
-use text::{Act, Reader, TextFault};
+use text::{Act, Reader, TextCause, TextFault, Written};
 use values::{Notice, PulseReport};
 
-// The number of the refusal of a notice's act, or 0.
-fn refusal(text: &[u8]) -> u16 {
+// The number of the refusal of an act, or 0.
+fn number_of<K: Written + Drop>(text: &[u8]) -> u16 {
     let mut reader = Reader::new(text);
-    match reader.act::<Notice>() {
+    match reader.act::<K>() {
         Ok(_) => 0,
         Err(e) => e.number(),
     }
 }
 
+fn refusal(text: &[u8]) -> u16 {
+    number_of::<Notice>(text)
+}
+
 fn pulse_refusal(text: &[u8]) -> u16 {
-    let mut reader = Reader::new(text);
-    match reader.act::<PulseReport>() {
-        Ok(_) => 0,
-        Err(e) => e.number(),
-    }
+    number_of::<PulseReport>(text)
 }
 
 #[test]
@@ -52,10 +52,9 @@ fn lines_are_at_most_64_bytes(rt: HostRuntime) {
 #[test]
 fn a_refused_line_stays_until_it_is_skipped(rt: HostRuntime) {
     let mut reader = Reader::new(b"turn=01\nturn=2\n");
-    let first: Result<Act<Notice>, TextFault> = reader.act();
-    assert_eq!(rt; first, Err(TextFault::Form(1)));
-    let again: Result<Act<Notice>, TextFault> = reader.act();
-    assert_eq!(rt; again, Err(TextFault::Form(1)));
+    let refused: Result<Act<Notice>, TextFault> = Err(TextFault::at(1, TextCause::Form));
+    assert_eq!(rt; reader.act(), refused);
+    assert_eq!(rt; reader.act(), refused);
     reader.skip();
     let second: Result<Act<Notice>, TextFault> = reader.act();
     assert_eq!(rt; second, Ok(Act::Turn(2)));

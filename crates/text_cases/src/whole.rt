@@ -36,8 +36,8 @@ fn the_sample_is_read_and_written_again(rt: HostRuntime) -> Result<(), Fail> {
 fn answer(text: &[u8], rt: &HostRuntime) -> (usize, u16) {
     match read::<Notice>(text, rt.alloc()) {
         Ok(_) => (0, 0),
-        Err(ReadError::Fault(e)) => (e.line(), e.number()),
-        Err(ReadError::Memory) => (0, 1),
+        Err(ReadError::Fault(e)) => (e.line, e.number()),
+        Err(ReadError::Memory(_)) => (0, 1),
     }
 }
 

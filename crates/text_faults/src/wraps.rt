@@ -1,30 +1,35 @@
-// Faults of the layers below, with their line, as faults of a text.
-ghost use Rattle.text_faults.specs.declared.texts.TextFault.TheVariants.{Value, Group, List};
+// Faults of a line and of the layers below as causes of a text's.
 ghost use Rattle.std.specs.Prelude.{◌≡◌};
+ghost use Rattle.text_faults.specs.Causes.{cause_of_line};
+ghost use Rattle.text_faults.specs.declared.causes.TextCause.TheVariants.{Group, List};
 
-use crate::texts::{At, TextFault};
-use faults::{GroupFault, ListFault, ValueFault};
+use crate::causes::TextCause;
+use crate::lines::LineFault;
+use faults::{GroupFault, ListFault};
 
-impl From<At<ValueFault>> for TextFault {
-    ghost from_gives = { λ e r. r ≡ Value e };
+impl From<LineFault> for TextCause {
+    ghost from_gives = { λ e r. r ≡ cause_of_line e };
 
-    fn from(e: At<ValueFault>) -> TextFault {
-        TextFault::Value(e)
+    fn from(e: LineFault) -> TextCause {
+        match e {
+            LineFault::Form => TextCause::Form,
+            LineFault::Value(e) => TextCause::Value(e),
+        }
     }
 }
 
-impl From<At<GroupFault>> for TextFault {
+impl From<GroupFault> for TextCause {
     ghost from_gives = { λ e r. r ≡ Group e };
 
-    fn from(e: At<GroupFault>) -> TextFault {
-        TextFault::Group(e)
+    fn from(e: GroupFault) -> TextCause {
+        TextCause::Group(e)
     }
 }
 
-impl From<At<ListFault>> for TextFault {
+impl From<ListFault> for TextCause {
     ghost from_gives = { λ e r. r ≡ List e };
 
-    fn from(e: At<ListFault>) -> TextFault {
-        TextFault::List(e)
+    fn from(e: ListFault) -> TextCause {
+        TextCause::List(e)
     }
 }

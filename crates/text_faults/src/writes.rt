@@ -6,6 +6,7 @@ ghost use Rattle.text_faults.specs.Faults.{write_number, write_layer, write_word
 
 use faults::{Fault, Layer, ListFault};
 use std::alloc::AllocError;
+use std::error::Error;
 use std::fmt;
 
 // Why a campaign is not written.
@@ -21,6 +22,8 @@ impl Fault for WriteFault {
 
     ghost layered = { write_layer };
 
+    ghost worded = { write_words };
+
     fn number(&self) -> u16 {
         match self {
             WriteFault::List(e) => e.number(),
@@ -34,13 +37,8 @@ impl Fault for WriteFault {
             WriteFault::Short => Layer::Text,
         }
     }
-}
 
-impl WriteFault {
-    // The cause in words.
-    pub fn words(&self) -> &'static str
-        ensures { result.now ≡ write_words self.now }
-    {
+    fn words(&self) -> &'static str {
         match self {
             WriteFault::List(e) => e.words(),
             WriteFault::Short => "buffer too short",
@@ -56,10 +54,12 @@ impl fmt::Display for WriteFault {
     }
 }
 
+impl Error for WriteFault {}
+
 #[derive(Clone, Copy, Debug, PartialEq, Eq)]
 pub enum WriteError {
     Fault(WriteFault),
-    Memory,
+    Memory(AllocError),
 }
 
 impl From<ListFault> for WriteError {
@@ -71,10 +71,9 @@ impl From<ListFault> for WriteError {
 }
 
 impl From<AllocError> for WriteError {
-    ghost from_gives = { λ e r. r ≡ NoMemory };
+    ghost from_gives = { λ e r. r ≡ NoMemory e };
 
     fn from(e: AllocError) -> WriteError {
-        let _ = e;
-        WriteError::Memory
+        WriteError::Memory(e)
     }
 }

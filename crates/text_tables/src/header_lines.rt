@@ -1,22 +1,13 @@
 // Header lines: what is refused, at which line, by which layer and number.
-use crate::cases::Case;
-use faults::{Fault, Layer};
+use crate::cases::{Case, is_answer};
+use faults::Layer;
 use std::process::Abort;
 use text::Reader;
 
-// Whether the header is answered as the case says.
-fn answers(case: &Case) -> bool {
-    let (text, line, layer, number) = *case;
-    let mut reader = Reader::new(text);
-    match reader.header() {
-        Ok(_) => line == 0,
-        Err(e) => e.line() == line && e.layer() == layer && e.number() == number,
-    }
-}
-
 fn all(rt: &impl Abort, cases: &[Case]) {
     for case in cases {
-        assert!(rt; answers(case));
+        let mut reader = Reader::new(case.0);
+        assert!(rt; is_answer(case, reader.header()));
     }
 }
 

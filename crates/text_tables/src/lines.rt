@@ -1,23 +1,15 @@
 // Lines of acts, and where a reader stands after a refused one.
-use crate::cases::Case;
-use faults::{Fault, Layer};
+use crate::cases::{Case, is_answer};
+use faults::Layer;
 use std::process::Abort;
-use text::{Act, Reader, TextFault, Written};
+use text::{Act, Reader, TextCause, TextFault, Written};
 use values::{Notice, PulseReport};
 
-// Whether the first act, of a campaign of this kind, is answered as the case says.
-fn answers<K: Written + Drop>(case: &Case) -> bool {
-    let (text, line, layer, number) = *case;
-    let mut reader = Reader::new(text);
-    match reader.act::<K>() {
-        Ok(_) => line == 0,
-        Err(e) => e.line() == line && e.layer() == layer && e.number() == number,
-    }
-}
-
+// The first act of each text, in a campaign of this kind.
 fn all<K: Written + Drop>(rt: &impl Abort, cases: &[Case]) {
     for case in cases {
-        assert!(rt; answers::<K>(case));
+        let mut reader = Reader::new(case.0);
+        assert!(rt; is_answer(case, reader.act::<K>()));
     }
 }
 
@@ -99,10 +91,9 @@ fn acts_must_have_their_form(rt: HostRuntime) {
 #[test]
 fn a_refused_line_stays_until_it_is_skipped(rt: HostRuntime) {
     let mut reader = Reader::new(b"turn=01\nturn=2\n");
-    let first: Result<Act<Notice>, TextFault> = reader.act();
-    assert_eq!(rt; first, Err(TextFault::Form(1)));
-    let again: Result<Act<Notice>, TextFault> = reader.act();
-    assert_eq!(rt; again, Err(TextFault::Form(1)));
+    let refused: Result<Act<Notice>, TextFault> = Err(TextFault::at(1, TextCause::Form));
+    assert_eq!(rt; reader.act(), refused);
+    assert_eq!(rt; reader.act(), refused);
     reader.skip();
     let second: Result<Act<Notice>, TextFault> = reader.act();
     assert_eq!(rt; second, Ok(Act::Turn(2)));

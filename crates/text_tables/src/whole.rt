@@ -1,6 +1,6 @@
 // Whole campaigns: what is read and written again is the same text, and what is refused.
-use crate::cases::Case;
-use faults::{Fault, Layer, ListFault};
+use crate::cases::{Case, is_answer};
+use faults::{Layer, ListFault};
 use std::alloc::Global;
 use std::process::Abort;
 use std::test::Fail;
@@ -61,13 +61,10 @@ fn a_list_is_refused_before_the_buffer(rt: HostRuntime) -> Result<(), Fail> {
 
 // Whether the whole text is answered as the case says.
 fn answers(case: &Case, heap: Global) -> bool {
-    let (text, line, layer, number) = *case;
-    match read::<Notice>(text, heap) {
-        Ok(_) => line == 0,
-        Err(ReadError::Fault(e)) => {
-            e.line() == line && e.layer() == layer && e.number() == number
-        }
-        Err(ReadError::Memory) => false,
+    match read::<Notice>(case.0, heap) {
+        Ok(campaign) => is_answer(case, Ok(campaign)),
+        Err(ReadError::Fault(e)) => is_answer::<()>(case, Err(e)),
+        Err(ReadError::Memory(_)) => false,
     }
 }
 

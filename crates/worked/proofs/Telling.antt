@@ -111,7 +111,7 @@ may_turn k a fine = ap (λ z. turn_refusal state_account z k) a.is ∙ fine
 
 -- a bench just opened over a carriage made for four
 pub opened_at : (v : View Echo) → v ≡ opened v.carriage → MadeForFour v.carriage → At v at0
-opened_at v e m = record { is = ap image e ∙ ap opened (m.fresh ∙ ap (λ g. fresh_state g 2) (is_four v.carriage.group m.four)) }
+opened_at v e m = record { is = ap image e ∙ ap opened (m.fresh ∙ ap (λ g. fresh_state g 2) (is_four v.carriage.stage.group m.four)) }
 
 module _ {K : Type 0} (rules : Rules K) where
   -- begun with no value

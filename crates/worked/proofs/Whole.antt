@@ -24,7 +24,7 @@ use Rattle.worked.proofs.Ending.{all_show, only_place, may_close, one_charge}
 
 pub made_for_four : (c : Echo) (g : Group) → state_of c ≡ fresh_state g 2 → FourControllers g → MadeForFour c
 made_for_four c g e f =
-    let same : g ≡ c.group = sym (ap (λ s. s.group) e) in
+    let same : g ≡ c.stage.group = sym (ap (λ s. s.group) e) in
     record { four = subst FourControllers same f; fresh = e ∙ ap (λ h. fresh_state h 2) same }
 
 -- a run without its newest call
@@ -63,8 +63,8 @@ module _ {K : Type 0} (rules : Rules K) where
     believes : (q place other : ℕ) → Believes at5.carriage q place other → Believes (state_of early.0.carriage) q place other
     believes q place other b = subst (λ z. Believes z.carriage q place other) (sym early_at) b
 
-    group_four : c.group ≡ four
-    group_four = is_four c.group made.four
+    group_four : c.stage.group ≡ four
+    group_four = is_four c.stage.group made.four
 
     marked_3 : marked four 3 ≡ true
     unfolding bit
@@ -73,7 +73,7 @@ module _ {K : Type 0} (rules : Rules K) where
     law_from : AllAgree echo_account rules u → AllAgree echo_account rules (opened c)
     law_from law = subst (AllAgree echo_account rules) open-view law
 
-    shot_had : shot_of {K = K} both_stories ≡ Some (record { sender = 3; value = None; turns = 2 * (c.group.t + 1) })
+    shot_had : shot_of {K = K} both_stories ≡ Some (record { sender = 3; value = None; turns = 2 * (c.stage.group.t + 1) })
     shot_had = ap (λ t. Some (record { sender = 3; value = None; turns = 2 * (t + 1) })) (sym made.four.t)
 
     pub two_stories_lem : length rules.values ≡ 2 → AllAgree echo_account rules u → (x : View Echo) → x ≡ after_close echo_account rules w → TwoStories rules

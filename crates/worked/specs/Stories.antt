@@ -51,15 +51,15 @@ pub record Believes (s : State) (q place other : ℕ) : Type 0 where
 
 -- an echo carriage just made for four controllers, of which 3 is marked, and for lists of two values
 pub record MadeForFour (c : Echo) : Type 0 where
-  pub four : FourControllers c.group
-  pub fresh : state_of c ≡ fresh_state c.group 2
+  pub four : FourControllers c.stage.group
+  pub fresh : state_of c ≡ fresh_state c.stage.group 2
 
 -- the shot, on a bench just opened over such a carriage, with its close
 pub record TwoStories {K : Type 0} (rules : Rules K) : Type 0 where
   pub carriage : Echo
   pub made : MadeForFour carriage
   -- the sender is marked, and tells controllers 0 and 1 different values
-  pub sender : marked carriage.group 3 ≡ true
+  pub sender : marked carriage.stage.group 3 ≡ true
   pub apart : first_story.triple.place ≡ (second_story 1).triple.place → ⊥
   -- after the first phase controller 0 is a witness of one story, 1 and 2 of the other
   pub early : View Echo
@@ -74,9 +74,9 @@ pub record TwoStories {K : Type 0} (rules : Rules K) : Type 0 where
   pub shown : AllShow echo_account ended (Place 1)
   -- the law of agreement speaks of this shot, which has had its last phase, and the verdict that it speaks of is this one
   pub law : AllAgree echo_account rules (opened carriage)
-  pub shot : shot_of {K = K} both_stories ≡ Some (record { sender = 3; value = None; turns = 2 * (carriage.group.t + 1) })
+  pub shot : shot_of {K = K} both_stories ≡ Some (record { sender = 3; value = None; turns = 2 * (carriage.stage.group.t + 1) })
   pub by_law : ((law both_stories ended run).agree _ shot refl).0 ≡ Place 1
   -- the close is taken too, and charges the second value's block at every correct controller, and no other
   pub after : View Echo
   pub closed : Run echo_account rules (opened carriage) (taken (close 1) ∷ both_stories) after
-  pub tallies : (q b : ℕ) → correct carriage.group q ≡ true → b < 64 → tally_answer echo_account after q b ≡ Ok (cond (charges rules (Place 1) b) 1 0)
+  pub tallies : (q b : ℕ) → correct carriage.stage.group q ≡ true → b < 64 → tally_answer echo_account after q b ≡ Ok (cond (charges rules (Place 1) b) 1 0)

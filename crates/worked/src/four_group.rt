@@ -9,11 +9,6 @@ pub fn four_controllers() -> Group
     ensures four { FourControllers result }
     ensures table { WorkedCases }
 {
-    let Ok(marks) = Marks::none().with(3) else {
-        unreachable()
-    };
-    let Ok(group) = Group::new(4, 1, marks) else {
-        unreachable()
-    };
-    group
+    let marks = Marks::none().with(3).unwrap();
+    Group::new(4, 1, marks).unwrap()
 }

@@ -37,9 +37,7 @@ fn tell(bench: &mut Bench<Echo>, to: u16, letter: u8, place: u16)
     requires { inject_refusal echo_account (view_of bench.old) (story_told_to to letter place) ≡ None }
     ensures { Injected echo_account (story_told_to to letter place) (view_of bench.old) (view_of bench.new) }
 {
-    let Ok(()) = bench.inject(told_to(to, letter, place)) else {
-        unreachable()
-    };
+    bench.inject(told_to(to, letter, place)).unwrap();
 }
 
 // The turn of the current phase.
@@ -47,9 +45,7 @@ fn turn_on(bench: &mut Bench<Echo>, phase: u16)
     requires { turn_refusal echo_account (view_of bench.old) phase ≡ None }
     ensures { TurnTaken echo_account (view_of bench.old) (view_of bench.new) }
 {
-    let Ok(()) = bench.turn(phase) else {
-        unreachable()
-    };
+    bench.turn(phase).unwrap();
 }
 
 // A marked sender is given no value of the list.
@@ -66,9 +62,7 @@ fn play<K: Kind>(bench: &mut Bench<Echo>, list: &[K])
     requires two { length list.now ≡ 2 }
     ensures { Run echo_account (rules_of K.Kind.same K.Kind.charge list.now) (view_of bench.old) both_stories (view_of bench.new) }
 {
-    let Ok(()) = bench.begin(list, 3, no_value(list)) else {
-        unreachable()
-    };
+    bench.begin(list, 3, no_value(list)).unwrap();
     tell(bench, 0, b'i', 0);
     tell(bench, 1, b'i', 1);
     tell(bench, 2, b'i', 1);
@@ -84,10 +78,7 @@ fn shown_by(bench: &Bench<Echo>, q: u16) -> Verdict
     requires { is_ok (verdict_answer echo_account (view_of bench.now) q) ≡ true }
     ensures { verdict_answer echo_account (view_of bench.now) q ≡ Ok result }
 {
-    let Ok(verdict) = bench.verdict(q) else {
-        unreachable()
-    };
-    verdict
+    bench.verdict(q).unwrap()
 }
 
 // Plays and closes one shot over the echo carriage with this list of two values: controller 3 is marked and sends the
@@ -97,21 +88,14 @@ pub fn two_stories<K: Kind>(list: &[K]) -> Result<[Verdict; 3], BenchFault>
     ensures shown { IfOk result (λ verdicts. verdicts ≡ Place 1 ∷ Place 1 ∷ Place 1 ∷ []) }
     ensures run { OnOk result (TwoStories (rules_of K.Kind.same K.Kind.charge list.now)) }
 {
-    let Ok(carriage) = Echo::new(four_controllers(), 2) else {
-        unreachable()
-    };
-    let mut bench = match Bench::open(carriage, list) {
-        Ok(bench) => bench,
-        Err(unopened) => return Err(unopened.fault),
-    };
+    let carriage = Echo::new(four_controllers(), 2).unwrap();
+    let mut bench = Bench::open(carriage, list)?;
     play(&mut bench, list);
     let verdicts = [
         shown_by(&bench, 0),
         shown_by(&bench, 1),
         shown_by(&bench, 2),
     ];
-    let Ok(()) = bench.close(list, 1) else {
-        unreachable()
-    };
+    bench.close(list, 1).unwrap();
     Ok(verdicts)
 }

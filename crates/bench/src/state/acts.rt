@@ -9,10 +9,11 @@ ghost use Rattle.std.specs.Option.{option_map};
 ghost use Rattle.std.specs.Result.{result_err};
 
 use super::Bench;
+use super::checks::check_length;
 use crate::charging::charge_all;
 use crate::offers::{offer_next, start_shot};
 use crate::places::Extracted;
-use crate::rounds::new_places;
+use crate::rounds::Round;
 use crate::shots::Progress;
 use agreement::{Act, BenchFault};
 use carriage::{Carriage, Frame};
@@ -41,8 +42,7 @@ impl<C: Carriage> Bench<C> {
         start_shot(&mut self.carriage, sender, place);
         self.extracted = Extracted::first(sender, place);
         self.progress = Progress {
-            running: true,
-            sender,
+            sender: Some(sender),
             closed: self.progress.closed,
         };
     }
@@ -63,16 +63,16 @@ impl<C: Carriage> Bench<C> {
         ensures does { MatchResult result (λ _. TurnTaken C.Carriage (view_of self.old) (view_of self.new)) (λ _. self.new ≡ self.old) }
     {
         self.check_moment(Act::Turn(phase))?;
-        let Ok(()) = self.carriage.turn() else {
-            unreachable()
-        };
+        self.carriage.turn().unwrap();
         if phase % 2 == 0 {
-            let news = new_places(
-                &self.carriage,
-                self.progress.sender,
-                &self.extracted,
-                phase / 2,
-            );
+            let sender = self.progress.sender.unwrap();
+            let round = Round {
+                carriage: &self.carriage,
+                sender,
+                before: &self.extracted,
+                number: phase / 2,
+            };
+            let news = round.new_places();
             self.extracted.add(&news);
             offer_next(&mut self.carriage, &news, phase / 2);
         }
@@ -85,12 +85,11 @@ impl<C: Carriage> Bench<C> {
         ensures does { MatchResult result (λ _. view_of self.new ≡ after_close C.Carriage (rules_of K.Kind.same K.Kind.charge list.now) (view_of self.old)) (λ _. self.new ≡ self.old) }
     {
         self.check_moment(Act::Close(shot))?;
-        self.check_length(list)?;
+        check_length(&self.carriage, list)?;
         let group = self.carriage.group();
         charge_all(&mut self.registers, &group, &self.extracted, list);
         self.progress = Progress {
-            running: false,
-            sender: self.progress.sender,
+            sender: None,
             closed: self.progress.closed + 1,
         };
         Ok(())

@@ -15,6 +15,16 @@ use groups::Group;
 use lists::place;
 use values::Kind;
 
+// The list is as long as the carriage says.
+pub(super) fn check_length<C: Carriage, K: Kind>(carriage: &C, list: &[K]) -> Result<(), ListFault>
+    ensures { result_err result ≡ length_cause (C.Carriage.model carriage.now) list.now }
+{
+    if list.len() != carriage.list_len() as usize {
+        return Err(ListFault::Length);
+    }
+    Ok(())
+}
+
 // The place of the value that a sender is given.
 fn find_given<K: Kind>(list: &[K], value: Option<&K>) -> Result<Option<u16>, BenchFault>
     requires { length list.now ≤ 4 }
@@ -24,9 +34,7 @@ fn find_given<K: Kind>(list: &[K], value: Option<&K>) -> Result<Option<u16>, Ben
     let Some(wanted) = value else {
         return Ok(None);
     };
-    let Some(p) = place(list, wanted) else {
-        return Err(BenchFault::NotListed);
-    };
+    let p = place(list, wanted).ok_or(BenchFault::NotListed)?;
     Ok(Some(p as u16))
 }
 
@@ -48,7 +56,7 @@ impl<C: Carriage> Bench<C> {
     pub fn moment(&self) -> Moment
         ensures { result ≡ moment_of C.Carriage (view_of self.now) }
     {
-        if !self.progress.running {
+        if self.progress.sender.is_none() {
             return Moment::Idle;
         }
         let phase = self.carriage.phase();
@@ -66,16 +74,6 @@ impl<C: Carriage> Bench<C> {
     {
         if !act_fits(self.moment(), self.progress.closed, act) {
             return Err(BenchFault::Moment);
-        }
-        Ok(())
-    }
-
-    // The list is as long as the carriage says.
-    pub(super) fn check_length<K: Kind>(&self, list: &[K]) -> Result<(), ListFault>
-        ensures { result_err result ≡ length_cause (C.Carriage.model self.now.carriage) list.now }
-    {
-        if list.len() != self.carriage.list_len() as usize {
-            return Err(ListFault::Length);
         }
         Ok(())
     }
@@ -111,7 +109,7 @@ impl<C: Carriage> Bench<C> {
         ensures place { IfOk result (λ p. p ≡ given (rules_of K.Kind.same K.Kind.charge list.now) (option_map (λ x. x.now) value.entry)) }
     {
         self.check_moment(Act::Begin)?;
-        self.check_length(list)?;
+        check_length(&self.carriage, list)?;
         self.check_shots()?;
         check_sender(&self.carriage.group(), sender, value.is_some())?;
         find_given(list, value)

@@ -9,6 +9,7 @@ ghost use Rattle.std.specs.Prelude.{◌≡◌, IfOk, Some, None, MatchResult};
 ghost use Rattle.std.specs.Result.{result_err};
 
 use super::Bench;
+use super::checks::check_length;
 use crate::places::Extracted;
 use crate::shots::Progress;
 use crate::tallies::Registers;
@@ -25,13 +26,19 @@ pub struct Unopened<C> {
     pub fault: BenchFault,
 }
 
+impl<C: Drop> From<Unopened<C>> for BenchFault {
+    ghost from_gives = { λ u r. r ≡ u.fault };
+
+    fn from(u: Unopened<C>) -> BenchFault {
+        u.fault
+    }
+}
+
 // The list is as long as the carriage says, and then a value list.
 fn check_open<C: Carriage, K: Kind>(carriage: &C, list: &[K]) -> Result<(), ListFault>
     ensures { result_err result ≡ open_fault (C.Carriage.model carriage.now) (rules_of K.Kind.same K.Kind.charge list.now) }
 {
-    if list.len() != carriage.list_len() as usize {
-        return Err(ListFault::Length);
-    }
+    check_length(carriage, list)?;
     check_list(list)
 }
 
@@ -43,6 +50,7 @@ impl<C: Carriage> Bench<C> {
         ensures view { IfOk result (λ b. view_of b ≡ opened carriage) }
         ensures law { IfOk result (λ b. AllAgree C.Carriage (rules_of K.Kind.same K.Kind.charge list.now) (view_of b)) }
     {
+        // Not `map_err` and `?`: the carriage goes into the refusal only where there is one.
         if let Err(e) = check_open(&carriage, list) {
             let fault = BenchFault::from(e);
             return Err(Unopened { carriage, fault });
@@ -50,8 +58,7 @@ impl<C: Carriage> Bench<C> {
         Ok(Bench {
             carriage,
             progress: Progress {
-                running: false,
-                sender: 0,
+                sender: None,
                 closed: 0,
             },
             extracted: Extracted::empty(),

@@ -3,24 +3,12 @@ ghost use Rattle.agreement.specs.Extraction.{Tells};
 ghost use Rattle.agreement.specs.Refusals.{verdict_answer, tally_answer};
 ghost use Rattle.bench.specs.Views.{view_of, sender_of};
 ghost use Rattle.std.specs.Prelude.{◌≡◌, IfOk};
-ghost use Rattle.std.specs.Result.{result_err};
-ghost use Rattle.values.specs.Ranges.{block_fault};
 
 use super::Bench;
 use agreement::{Act, BenchFault, Verdict};
 use carriage::Carriage;
-use faults::ValueFault;
 use groups::Group;
-
-// Blocks are 0 to 63.
-fn check_block(block: u16) -> Result<(), ValueFault>
-    ensures { result_err result ≡ block_fault block }
-{
-    if block > 63 {
-        return Err(ValueFault::Block);
-    }
-    Ok(())
-}
+use values::Block;
 
 impl<C: Carriage> Bench<C> {
     // What the correct controller q holds the running shot to have told, once all its phases are had.
@@ -37,7 +25,7 @@ impl<C: Carriage> Bench<C> {
     pub fn tally(&self, q: u16, block: u16) -> Result<u16, BenchFault>
         ensures { result ≡ tally_answer C.Carriage (view_of self.now) q block }
     {
-        check_block(block)?;
+        let block = Block::new(block)?;
         self.check_reader(q)?;
         Ok(self.registers.tally(q, block))
     }
@@ -46,11 +34,7 @@ impl<C: Carriage> Bench<C> {
     pub fn sender(&self) -> Option<u16>
         ensures { result ≡ sender_of (view_of self.now) }
     {
-        if self.progress.running {
-            Some(self.progress.sender)
-        } else {
-            None
-        }
+        self.progress.sender
     }
 
     // How many shots are closed.

@@ -13,11 +13,10 @@ ghost use Rattle.echo.specs.Kept;
 ghost use Rattle.echo.specs.Kept.{turns_on_lem};
 
 use super::Echo;
-use crate::cells::{blank_cells, blank_rows, turn_cells, with_if};
-use carriage::{Carriage, Frame, Triple, check_ends, check_offer, check_read};
+use crate::cells::Cell;
+use carriage::{Carriage, Frame, Stage, Table, Timing, Triple};
 use faults::{CarriageFault, ListFault};
 use groups::Group;
-use lists::check_length;
 
 impl Echo {
     // A carriage for a group and lists of `len` values, as after a start.
@@ -26,13 +25,9 @@ impl Echo {
         ensures value { IfOk result (λ c. state_of c ≡ fresh_state group len) }
         ensures runs { IfOk result TellsTheRun }
     {
-        check_length(len as usize)?;
         Ok(Echo {
-            group,
-            len,
-            phase: 1,
-            cells: blank_cells(),
-            echoes: blank_rows(),
+            stage: Stage::new(group, len)?,
+            table: Table::new(Cell::blank()),
         })
     }
 
@@ -40,43 +35,19 @@ impl Echo {
     pub fn witness(&self, q: u16, x: Triple) -> Result<bool, CarriageFault>
         ensures { result ≡ witness_answer (state_of self.now) q x }
     {
-        let witness = self.cells[x.slot()].witness.contains(q);
-        check_read(&self.group, self.len, q, x, witness)
+        let witness = self.table.get(x).witness.contains(q);
+        self.stage.check_read(q, x, witness)
     }
 
     fn check_frame(&self, f: Frame) -> Result<(), CarriageFault>
         ensures { result_err result ≡ inject_fault (is_echo_letter f) (any_seal f) (echo_model self.now) f }
     {
-        check_ends(&self.group, f)?;
+        self.stage.check_ends(f)?;
+        // letters are kept as bytes, and matched as characters: any may stand in a frame
         match f.letter() {
-            'i' | 'e' => {
-                if !f.triple.in_range(&self.group, self.len) {
-                    return Err(CarriageFault::Range);
-                }
-                Ok(())
-            }
+            'i' | 'e' => self.stage.check_range(f.triple),
             _ => Err(CarriageFault::Letter),
         }
-    }
-}
-
-// An init frame counts in the first phase of its round, from the origin itself.
-fn init_counts(f: Frame, phase: u16) -> bool
-    ensures { result ≡ counts_as_init phase f }
-{
-    match f.letter() {
-        'i' => f.from == f.triple.origin && phase as u32 + 1 == 2 * f.triple.round as u32,
-        _ => false,
-    }
-}
-
-// An e-frame counts from the second phase of its round on.
-fn echo_counts(f: Frame, phase: u16) -> bool
-    ensures { result ≡ counts_as_echo phase f }
-{
-    match f.letter() {
-        'e' => 2 * f.triple.round as u32 <= phase as u32,
-        _ => false,
     }
 }
 
@@ -95,7 +66,7 @@ impl Carriage for Echo {
 
     ghost turns = { echo_account.turns };
 
-    ghost lawful = { λ c. ∥∥₁_elim c.consistent (lawful_prop (echo_model c)) (Kept.lawful (state_of c) c.some c.few c.begun c.ends) };
+    ghost lawful = { λ c. ∥∥₁_elim c.consistent (lawful_prop (echo_model c)) (Kept.lawful (state_of c) c.stage.some c.stage.few c.stage.begun c.stage.ends) };
 
     ghost starts_afresh = { λ c d e. ap model_of e };
 
@@ -106,58 +77,53 @@ impl Carriage for Echo {
     ghost turns_on = { λ c d e. subst (λ s. Turned (echo_model c) (model_of s)) (sym e.1) (turns_on_lem (state_of c) c.consistent) };
 
     fn start(&mut self) {
-        self.cells = blank_cells();
-        self.echoes = blank_rows();
-        self.phase = 1;
+        self.stage.restart();
+        self.table = Table::new(Cell::blank());
     }
 
     fn offer(&mut self, x: Triple) -> Result<(), CarriageFault> {
-        let group = self.group;
-        check_offer(&group, self.len, self.phase, x)?;
-        let slot = x.slot();
-        let mut cell = self.cells[slot];
-        cell.offered = true;
-        self.cells[slot] = cell;
+        self.stage.check_offer(x)?;
+        self.table.update(
+            x,
+            |cell| Cell {
+                offered: true,
+                ..cell
+            },
+        );
         Ok(())
     }
 
     fn inject(&mut self, f: Frame) -> Result<(), CarriageFault> {
         self.check_frame(f)?;
-        let init = init_counts(f, self.phase);
-        let echo = echo_counts(f, self.phase);
-        let slot = f.triple.slot();
-        let row = slot * 16 + f.to as usize;
-        let mut cell = self.cells[slot];
-        cell.told = with_if(cell.told, f.to, init);
-        self.cells[slot] = cell;
-        self.echoes[row] = with_if(self.echoes[row], f.from, echo);
+        let phase = self.stage.phase();
+        self.table.update(f.triple, |cell| cell.hearing(f, phase));
         Ok(())
     }
 
     fn turn(&mut self) -> Result<(), CarriageFault> {
-        if self.phase == 2 * self.group.t() + 3 {
-            return Err(CarriageFault::Turn);
-        }
-        let phase = self.phase;
-        turn_cells(&mut self.cells, &self.group, phase, &self.echoes);
-        self.phase = phase + 1;
+        let next = self.stage.next()?;
+        let phase = self.stage.phase();
+        let group = self.stage.group();
+        self.table
+            .turn(|cell, round| cell.turned(&group, Timing { phase, round }));
+        self.stage = next;
         Ok(())
     }
 
     fn held(&self, q: u16, x: Triple) -> Result<bool, CarriageFault> {
-        let accepted = self.cells[x.slot()].accepted.contains(q);
-        check_read(&self.group, self.len, q, x, accepted)
+        let accepted = self.table.get(x).accepted.contains(q);
+        self.stage.check_read(q, x, accepted)
     }
 
     fn group(&self) -> Group {
-        self.group
+        self.stage.group()
     }
 
     fn list_len(&self) -> u16 {
-        self.len
+        self.stage.list_len()
     }
 
     fn phase(&self) -> u16 {
-        self.phase
+        self.stage.phase()
     }
 }

@@ -13,11 +13,10 @@ ghost use Rattle.seal.specs.Kept;
 ghost use Rattle.seal.specs.Kept.{turns_on_lem};
 
 use super::Seal;
-use crate::cells::{blank_cells, turn_cells};
-use carriage::{Carriage, Frame, Triple, check_ends, check_offer, check_read};
+use crate::cells::Cell;
+use carriage::{Carriage, Frame, Stage, Table, Timing, Triple};
 use faults::{CarriageFault, ListFault};
 use groups::Group;
-use lists::check_length;
 
 impl Seal {
     // A carriage for a group and lists of `len` values, as after a start.
@@ -26,19 +25,17 @@ impl Seal {
         ensures value { IfOk result (λ c. state_of c ≡ fresh_state group len) }
         ensures runs { IfOk result TellsTheRun }
     {
-        check_length(len as usize)?;
         Ok(Seal {
-            group,
-            len,
-            phase: 1,
-            cells: blank_cells(),
+            stage: Stage::new(group, len)?,
+            table: Table::new(Cell::blank()),
         })
     }
 
     fn check_frame(&self, f: Frame) -> Result<(), CarriageFault>
         ensures { result_err result ≡ inject_fault (is_seal f) (known_seal (state_of self.now) f) (seal_model self.now) f }
     {
-        check_ends(&self.group, f)?;
+        self.stage.check_ends(f)?;
+        // letters are kept as bytes, and matched as characters: any may stand in a frame
         match f.letter() {
             's' => self.check_seal(f.triple),
             _ => Err(CarriageFault::Letter),
@@ -49,10 +46,8 @@ impl Seal {
     fn check_seal(&self, x: Triple) -> Result<(), CarriageFault>
         ensures { result_err result ≡ seal_fault (state_of self.now) x }
     {
-        if !x.in_range(&self.group, self.len) {
-            return Err(CarriageFault::Range);
-        }
-        if self.group.is_correct(x.origin) && !self.cells[x.slot()].offered {
+        self.stage.check_range(x)?;
+        if self.stage.group().is_correct(x.origin) && !self.table.get(x).offered {
             return Err(CarriageFault::Seal);
         }
         Ok(())
@@ -74,7 +69,7 @@ impl Carriage for Seal {
 
     ghost turns = { seal_account.turns };
 
-    ghost lawful = { λ c. ∥∥₁_elim c.sound (lawful_prop (seal_model c)) (Kept.lawful (state_of c) c.some c.few c.begun c.ends) };
+    ghost lawful = { λ c. ∥∥₁_elim c.sound (lawful_prop (seal_model c)) (Kept.lawful (state_of c) c.stage.some c.stage.few c.stage.begun c.stage.ends) };
 
     ghost starts_afresh = { λ c d e. ap model_of e };
 
@@ -85,54 +80,57 @@ impl Carriage for Seal {
     ghost turns_on = { λ c d e. subst (λ s. Turned (seal_model c) (model_of s)) (sym e.1) (turns_on_lem (state_of c) c.sound) };
 
     fn start(&mut self) {
-        self.cells = blank_cells();
-        self.phase = 1;
+        self.stage.restart();
+        self.table = Table::new(Cell::blank());
     }
 
     fn offer(&mut self, x: Triple) -> Result<(), CarriageFault> {
-        let group = self.group;
-        check_offer(&group, self.len, self.phase, x)?;
-        let slot = x.slot();
-        let mut cell = self.cells[slot];
-        cell.offered = true;
-        self.cells[slot] = cell;
+        self.stage.check_offer(x)?;
+        self.table.update(
+            x,
+            |cell| Cell {
+                offered: true,
+                ..cell
+            },
+        );
         Ok(())
     }
 
     fn inject(&mut self, f: Frame) -> Result<(), CarriageFault> {
         self.check_frame(f)?;
-        let slot = f.triple.slot();
-        let mut cell = self.cells[slot];
-        cell.told = cell.told.with(f.to);
-        self.cells[slot] = cell;
+        self.table.update(
+            f.triple,
+            |cell| Cell {
+                told: cell.told.with(f.to),
+                ..cell
+            },
+        );
         Ok(())
     }
 
     fn turn(&mut self) -> Result<(), CarriageFault> {
-        if self.phase == 2 * self.group.t() + 3 {
-            return Err(CarriageFault::Turn);
-        }
-        let phase = self.phase;
-        let correct = self.group.correct_ones();
-        turn_cells(&mut self.cells, phase, correct);
-        self.phase = phase + 1;
+        let next = self.stage.next()?;
+        let phase = self.stage.phase();
+        let correct = self.stage.group().correct_ones();
+        self.table.turn(|cell, round| cell.turned(Timing { phase, round }, correct));
+        self.stage = next;
         Ok(())
     }
 
     fn held(&self, q: u16, x: Triple) -> Result<bool, CarriageFault> {
-        let accepted = self.cells[x.slot()].accepted.contains(q);
-        check_read(&self.group, self.len, q, x, accepted)
+        let accepted = self.table.get(x).accepted.contains(q);
+        self.stage.check_read(q, x, accepted)
     }
 
     fn group(&self) -> Group {
-        self.group
+        self.stage.group()
     }
 
     fn list_len(&self) -> u16 {
-        self.len
+        self.stage.list_len()
     }
 
     fn phase(&self) -> u16 {
-        self.phase
+        self.stage.phase()
     }
 }

@@ -1,42 +1,30 @@
 // The parts of a campaign's text.
-ghost use Rattle.std.specs.Prelude.{◌≡◌, ℕ, ◌-◌, List, ◌++◌, map, IfOk, string_bytes, decimal, OnOk};
+ghost use Rattle.std.specs.Prelude.{◌≡◌, ℕ, List, ◌++◌, filter, IfOk, string_bytes, OnOk};
 ghost use Rattle.acts.specs.Acts.{ActFits};
 ghost use Rattle.groups.specs.Groups.{marked};
-ghost use Rattle.std.specs.List.{AllByRecursion};
-ghost use Rattle.headers.specs.Lines.{list_from, commaed, marks_shown};
+ghost use Rattle.std.specs.List.{AllByRecursion, range_with_len};
+ghost use Rattle.headers.specs.Lines.{list_from, marks_shown};
 ghost use Rattle.layout.specs.Render.{value_lines, act_lines};
 
 use acts::{Act, act_line};
 use fields::Written;
 use groups::Group;
+use headers::Listed;
 use std::alloc::{AllocError, Global};
 
-// The marks from `k` on, a comma before each.
-fn marks_after(group: &Group, k: u16, heap: Global) -> Result<String, AllocError>
-    ensures { IfOk result (λ t. string_bytes t ≡ commaed (map decimal (list_from (16 - k) k (marked group.now)))) }
+// The marked controllers, in rising order.
+fn marked_ones(group: &Group, heap: Global) -> Result<Vec<u16>, AllocError>
+    ensures { IfOk result (λ v. v.items ≡ filter (marked group.now) (range_with_len 0 16)) }
 {
-    if k >= 16 {
-        return Ok(String::new(heap));
-    }
-    let tail = marks_after(group, k + 1, heap)?;
-    if !group.is_marked(k) {
-        return Ok(tail);
-    }
-    format!(in heap; ",{k}{tail}")
+    (0..16u16).filter(|k| group.is_marked(*k)).collect(heap)
 }
 
-// The marks from `k` on, commas between them, or a dash.
-pub(crate) fn marks_text(group: &Group, k: u16, heap: Global) -> Result<String, AllocError>
-    ensures { IfOk result (λ t. string_bytes t ≡ marks_shown (list_from (16 - k) k (marked group.now))) }
+// The marks with commas between them, or a dash.
+pub(crate) fn marks_text(group: &Group, heap: Global) -> Result<String, AllocError>
+    ensures { IfOk result (λ t. string_bytes t ≡ marks_shown (list_from 16 0 (marked group.now))) }
 {
-    if k >= 16 {
-        return String::from_str(heap, "-");
-    }
-    if !group.is_marked(k) {
-        return marks_text(group, k + 1, heap);
-    }
-    let tail = marks_after(group, k + 1, heap)?;
-    format!(in heap; "{k}{tail}")
+    let marks = marked_ones(group, heap)?;
+    Listed(&marks).to_string(heap)
 }
 
 // The v lines, behind what the text has already. Every number of a value fits, since values hold numbers of 16 bits.
@@ -50,8 +38,7 @@ pub(crate) fn push_values<K: Written>(
 {
     for v in values {
         let fields = v.written(heap)?;
-        let line = format!(in heap; "v={fields}\n")?;
-        text.push_str(line.as_str())?;
+        write!(text, "v={fields}\n")?;
     }
     Ok(())
 }
@@ -67,8 +54,7 @@ pub(crate) fn push_acts<K: Written>(
 {
     for a in acts {
         let line = act_line(a, heap)?;
-        text.push_str(line.as_str())?;
-        text.push_str("\n")?;
+        write!(text, "{line}\n")?;
     }
     Ok(())
 }

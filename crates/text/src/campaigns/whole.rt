@@ -10,7 +10,7 @@ use super::Campaign;
 use fields::Written;
 use reader::Reader;
 use std::alloc::Global;
-use text_faults::{ReadError, TextFault};
+use text_faults::{ReadError, TextCause, TextFault};
 
 // Reads a campaign whose values are of the kind `K`. The kind line of a campaign of the other kind, its sixth line, is
 // refused by its form.
@@ -21,7 +21,10 @@ pub fn read<K: Written + Drop>(text: &[u8], heap: Global) -> Result<Campaign<K>,
     let mut reader = Reader::new(text);
     let header = reader.header()?;
     if header.kind != K::kind() {
-        return Err(ReadError::Fault(TextFault::Form(6)));
+        return Err(ReadError::Fault(TextFault {
+            line: 6,
+            cause: TextCause::Form,
+        }));
     }
     let values = reader.values(header.count, heap)?;
     let acts = reader.acts(heap)?;

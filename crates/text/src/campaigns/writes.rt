@@ -3,36 +3,16 @@ ghost use Rattle.std.specs.Prelude.{◌≡◌, ◌++◌, length, take, drop, IfO
 ghost use Rattle.text.specs.Campaigns.{told_of};
 ghost use Rattle.layout.specs.Campaigns.{ReadsAs};
 ghost use Rattle.layout.specs.Render.{render};
-ghost use Rattle.headers.specs.Lines.{line_of_carriage, line_of_kind};
 ghost use Rattle.text_faults.specs.Faults.{FaultedBy};
 ghost use Rattle.text.specs.Writing.{write_fault};
 ghost use Rattle.lists.specs.Lists.{list_fault};
 
 use super::Campaign;
 use super::parts::{marks_text, push_acts, push_values};
-use fields::{ValueKind, Written};
-use headers::CarriageKind;
+use fields::Written;
 use lists::check_list;
 use std::alloc::{AllocError, Global};
 use text_faults::{WriteError, WriteFault};
-
-fn carriage_line(kind: CarriageKind) -> &'static str
-    ensures { result.now ≡ line_of_carriage kind }
-{
-    match kind {
-        CarriageKind::Echo => "carriage=echo",
-        CarriageKind::Seal => "carriage=seal",
-    }
-}
-
-fn kind_line(kind: ValueKind) -> &'static str
-    ensures { result.now ≡ line_of_kind kind }
-{
-    match kind {
-        ValueKind::Notices => "kind=notice",
-        ValueKind::Pulses => "kind=pulse",
-    }
-}
 
 // The text of a campaign. If its list is one, the text is read back as this campaign.
 pub fn rendered<K: Written>(campaign: &Campaign<K>, heap: Global) -> Result<String, AllocError>
@@ -42,13 +22,13 @@ pub fn rendered<K: Written>(campaign: &Campaign<K>, heap: Global) -> Result<Stri
     let mut body = String::new(heap);
     push_values(&mut body, &campaign.values, heap)?;
     push_acts(&mut body, &campaign.acts, heap)?;
-    let carriage = carriage_line(campaign.carriage);
-    let kind = kind_line(K::kind());
+    let carriage = campaign.carriage;
+    let kind = K::kind();
     let count = campaign.values.len();
-    let rest = format!(in heap; "{carriage}\n{kind}\nvalues={count}\n{body}")?;
+    let rest = format!(in heap; "carriage={carriage}\nkind={kind}\nvalues={count}\n{body}")?;
     let n = campaign.group.n();
     let t = campaign.group.t();
-    let marks = marks_text(&campaign.group, 0, heap)?;
+    let marks = marks_text(&campaign.group, heap)?;
     format!(in heap; "bench=1\nn={n}\nt={t}\nmarks={marks}\n{rest}")
 }
 

@@ -8,8 +8,8 @@ use Rattle.acts.proofs.lines.injection_line.Goals as goal
 pub returns : goal.returns
 returns c =
     let x = c.args.x.now in
-    let is : c.letter-letter.result ≡ letter_byte x.letter = c.letter-letter.ensures ∙ c.frame.ensures.2 in
-    let small : c.letter-letter.result < 128 = omega (arith, letter_range x.letter) in
+    let is : c.from-letter.result ≡ letter_byte x.letter = c.from-letter.ensures ∙ c.from.ensures in
+    let small : c.from-letter.result < 128 = omega (arith, letter_range x.letter) in
     let letter = encode_ascii _ small ∙ ap (λ y. y ∷ []) is in
     IfOk-weaker c.format.result _ _
     (λ t e. (

@@ -1,19 +1,12 @@
-use Rattle.std.proofs.Common.{◌≡◌, ℕ, ◌<◌, Bool, true, false, cond, ◌&&◌, eqb, ltb, length, sym, ap, ◌∙◌, arith}
-use Rattle.std.proofs.lemmas.Bool.{and_parts, ltb-true}
+use Rattle.std.proofs.Common.{ℕ, Bool, false, cond, ◌&&◌, eqb, length, sym, ap, ◌∙◌}
 use Rattle.groups.specs.Groups.{correct}
 use Rattle.agreement.specs.Extraction.{verdict_of}
 use Rattle.agreement.specs.Steps.{charges, raised}
 use Rattle.agreement.specs.Views.{rules_of}
 use Rattle.bench.specs.Tables.{in_set, tally_of}
-use Rattle.bench.proofs.Charges.{charged_none, charged_more, charged_all, none_charged}
+use Rattle.bench.proofs.Charges.{charged_more, none_charged}
 use Rattle.bench.proofs.charging.charge_all.Goals as goal
 use Rattle.bench.proofs.charging.charge_all.Goals.{then-is_correct, else-is_correct}
-
-pub loop-q-init : goal.loop-q-init
-loop-q-init g c p b =
-    let rules = rules_of g.K.Kind.same g.K.Kind.charge c.args.list.now in
-    let verdict = λ (k : ℕ). verdict_of (length c.args.list.now) (in_set c.args.extracted.now k) in
-    charged_none (λ k. correct c.args.group.now k && charges rules (verdict k) b) p (tally_of c.args.registers.now p b)
 
 pub loop-q-preserved : goal.loop-q-preserved
 loop-q-preserved g c p b =
@@ -31,11 +24,3 @@ loop-q-preserved g c p b =
           charged_more test p old q sofar _ false (ap (λ x. x && charges rules (verdict q) b) (sym c.is_correct.ensures ∙ w.if-is_correct.false)) (c.loop-q.invariant p b)
           (ap (λ x. tally_of x p b) w.registers-is ∙ none_charged (eqb p q) sofar)
     ]
-
-pub returns : goal.returns
-returns g c p b =
-    let rules = rules_of g.K.Kind.same g.K.Kind.charge c.args.list.now in
-    let verdict = λ (k : ℕ). verdict_of (length c.args.list.now) (in_set c.args.extracted.now k) in
-    let test : ℕ → Bool = λ k. correct c.args.group.now k && charges rules (verdict k) b in
-    let inside : test p ≡ true → p < c.loop-q.q = λ e. let l = ltb-true p c.args.group.now.n (and_parts (ltb p c.args.group.now.n) _ (and_parts (correct c.args.group.now p) _ e).0).0 in omega (arith, l) in
-    c.loop-q.invariant p b ∙ charged_all test p (tally_of c.args.registers.now p b) c.loop-q.q inside

@@ -1,6 +1,3 @@
-use Rattle.std.proofs.Common.{◌≡◌, subst, arith}
-use Rattle.agreement.specs.Extraction.{group_offers}
-use Rattle.agreement.specs.Steps.{Offered}
 use Rattle.bench.specs.Tables.{in_set}
 use Rattle.bench.proofs.Chains.{group_start, group_then, still_can}
 use Rattle.bench.proofs.offers.offer_group.Goals as goal
@@ -14,8 +11,3 @@ loop-q-preserved g c =
 
 pub offer_places-requires : goal.offer_places-requires
 offer_places-requires g c = still_can g.C.Carriage g.met.C.Carriage.offers_one c.loop-q.invariant (in_set c.args.news.now) c.args.round c.requires
-
-pub returns : goal.returns
-returns g c =
-    let done : c.loop-q.q ≡ c.args.n = omega arith in
-    subst (λ n. Offered g.C.Carriage c.args.carriage.now (group_offers (in_set c.args.news.now) c.args.round c.args.len n) c.loop-q.carriage) done c.loop-q.invariant

@@ -11,12 +11,8 @@ pub turn_all-requires : goal.turn_all-requires
 turn_all-requires g c =
     turnable g.C.Carriage (keeps g) _ _ _ _ _ _ c.in_ok-begin.ensures.does c.inject_all.ensures (ap (λ t. 2 * (t + 1)) (c.t.ensures ∙ ap (λ k. k.t) c.group.ensures))
 
-pub returns : goal.returns
-returns g c =
+pub returns-clause-played : goal.returns-clause-played
+returns-clause-played g c =
     let begun = c.in_ok-begin.ensures in
-    record {
-      refusal = begun.refusal;
-      played =
-          played_by g.C.Carriage _ (keeps g) _ _ _ _ _ _ _ (sym begun.refusal) begun.does c.inject_all.ensures (ap (λ t. 2 * (t + 1)) (c.t.ensures ∙ ap (λ k. k.t) c.group.ensures))
-          c.turn_all.ensures;
-    }
+    played_by g.C.Carriage _ (keeps g) _ _ _ _ _ _ _ (sym begun.refusal) begun.does c.inject_all.ensures (ap (λ t. 2 * (t + 1)) (c.t.ensures ∙ ap (λ k. k.t) c.group.ensures))
+    c.turn_all.ensures

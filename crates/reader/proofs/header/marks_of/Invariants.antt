@@ -4,4 +4,4 @@ use Rattle.headers.specs.Headers.{in_table}
 use Rattle.reader.proofs.header.marks_of.Given as goal
 
 abbrev pub invariant-loop-k : goal.invariant-loop-k
-invariant-loop-k l = (l.k ≤ 16) × BuiltBelow (in_table l.table) l.k l.marks.set
+invariant-loop-k l = (l.k ≤ 16) × BuiltBelow (in_table l.fn.table) l.k l.marks.set

@@ -10,7 +10,7 @@ use Rattle.report.proofs.acting.perform.Goals as goal
 pub returns-in_err-inject-in-Inject : goal.returns-in_err-inject-in-Inject
 returns-in_err-inject-in-Inject g c =
     let rules = rules_of g.K.Kind.same g.K.Kind.charge c.args.list.now in
-    let call = injection_call c.args.act.now c.in-Inject.injection c.frame.result c.in-Inject.is c.frame.ensures in
+    let call = injection_call c.args.act.now c.in-Inject.injection c.into.result c.in-Inject.is c.into.ensures in
     let met = c.in_err-inject-in-Inject.ensures in
     rw (handed c.from_residual-in_err-inject-in-Inject.result _ c.from_residual-in_err-inject-in-Inject.ensures.1)
     (record { refusal = met.refusal ∙ ap (fault_of g.C.Carriage rules (view_of c.args.bench.now)) call; does = met.does })
@@ -20,7 +20,7 @@ returns-in_ok-inject-in-Inject g c =
     let rules = rules_of g.K.Kind.same g.K.Kind.charge c.args.list.now in
     let v = view_of c.args.bench.now in
     let w = view_of c.inject.new.self in
-    let call = injection_call c.args.act.now c.in-Inject.injection c.frame.result c.in-Inject.is c.frame.ensures in
+    let call = injection_call c.args.act.now c.in-Inject.injection c.into.result c.in-Inject.is c.into.ensures in
     let met = c.in_ok-inject-in-Inject.ensures in
     record {
       refusal = met.refusal ∙ ap (fault_of g.C.Carriage rules v) call;

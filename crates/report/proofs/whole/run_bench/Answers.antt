@@ -1,4 +1,5 @@
 use Rattle.std.proofs.Common.{Some, vec_items, ap, subst}
+use Rattle.std.proofs.lemmas.Result.{IfOk-at_ok}
 use Rattle.agreement.specs.Law.{AllAgree}
 use Rattle.agreement.specs.Views.{View, rules_of}
 use Rattle.bench.specs.Views.{view_of}
@@ -13,7 +14,7 @@ returns g c =
     let p = c.in_ok-report.report in
     let run = c.in_ok-report.ensures in
     let pool = c.in_ok-out_blocks.ensures in
-    let u = c.in-Ok.ensures.view in
+    let u = (IfOk-at_ok _ c.unwrap-bench.ensures c.open.ensures.view) in
     let from-here : View g.row.C.Denot → Type 0 = λ u. Course g.C.Carriage rules g.K.Written.reads c.args.reader u (vec_items p.events) run.events p.taken p.refused run.end end in
     let course = subst from-here u run.course in
     record {
@@ -22,5 +23,5 @@ returns g c =
       lowest = pool.0;
       is_lowest = pool.1;
       out = ap Some pool.2;
-      truthful = truthful (subst (AllAgree g.C.Carriage rules) u c.in-Ok.ensures.law) g.met.K.Kind.small pool.0 course pool.1;
+      truthful = truthful (subst (AllAgree g.C.Carriage rules) u (IfOk-at_ok _ c.unwrap-bench.ensures c.open.ensures.law)) g.met.K.Kind.small pool.0 course pool.1;
     }

@@ -1,7 +1,9 @@
 use Rattle.std.proofs.Common.{◌++◌, vec_items, string_bytes, codes, decimal, ap, ◌∙◌, subst}
 use Rattle.std.proofs.lemmas.Result.{IfOk-weaker}
 use Rattle.layout.specs.Render.{value_lines, act_lines, render}
-use Rattle.headers.specs.Lines.{line_of_kind, line_of_marks}
+use Rattle.fields.specs.Kinds.{kind_word}
+use Rattle.headers.specs.Carriages.{carriage_word}
+use Rattle.headers.specs.Lines.{line_of_marks}
 use Rattle.std.specs.List.{AllByRecursion}
 use Rattle.acts.specs.Acts.{ActFits}
 use Rattle.text.proofs.Back.{written_back}
@@ -15,9 +17,8 @@ returns g c =
     let acts = act_lines shows (vec_items v.acts) in
     let body = c.in_ok-push_acts.ensures.bytes ∙ ap (λ xs. string_bytes c.push_values.new.text ++ act_lines shows xs) c.deref-2.ensures.value
     ∙ c.in_ok-push_values.ensures.bytes acts ∙ (λ i. c.new-body.ensures.bytes i ++ value_lines shows (c.deref.ensures.value i) acts) in
-    let kind = c.kind_line-kind.ensures ∙ ap line_of_kind c.kind.ensures in
     let count = c.len-count.ensures ∙ v.values.ok.0 in
-    let rest = c.in_ok-rest.ensures.ok ∙ (λ i. c.carriage_line-carriage.ensures i ++ (codes "\n" ++ (kind i ++ (codes "\nvalues=" ++ (decimal (count i) ++ (codes "\n" ++ body i)))))) in
+    let rest = c.in_ok-rest.ensures.ok ∙ (λ i. codes "carriage=" ++ (carriage_word v.carriage ++ (codes "\nkind=" ++ (kind_word (c.kind-kind.ensures i) ++ (codes "\nvalues=" ++ (decimal (count i) ++ (codes "\n" ++ body i))))))) in
     let text = IfOk-weaker c.format-2.result _ _
     (λ s e. e ∙ (λ i. codes "bench=1\nn=" ++ (decimal (c.n-n.ensures i) ++ (codes "\nt=" ++ (decimal (c.t-t.ensures i) ++ (codes "\nmarks=" ++ (c.in_ok-marks.ensures i ++ (codes "\n" ++ rest i))))))))
     c.format-2.ensures.ok in

@@ -1,28 +1,26 @@
-use Rattle.std.proofs.Common.{◌≡◌, eqb, None, sym, subst, arith}
+use Rattle.std.proofs.Common.{◌≡◌, rules, sym, subst}
 use mathlib.Core.Logic.{∥∥₁_map}
-use Rattle.std.proofs.lemmas.Bool.{ne_eqb, cond-false}
-use Rattle.carriage.specs.Model.{turn_fault, end_phase}
+use Rattle.echo.specs.Cells.{blank}
+use Rattle.echo.specs.Echoes.{state_of}
 use Rattle.echo.specs.Consistent.{Consistent}
-use Rattle.echo.specs.Echoes.{echo_model, state_of}
+use Rattle.echo.specs.State.{turn_state}
+use Rattle.echo.specs.View.{view_of}
 use Rattle.echo.specs.Kept.{turn_consistent}
 use Rattle.echo.proofs.Views.{turn_view}
 use Rattle.echo.proofs.carrier.calls.EchoCarriage.turn.Goals as goal
+use Rattle.echo.proofs.carrier.calls.EchoCarriage.turn.Goals.{After-turn}
+
+-- the table that the code leaves stands for the state after the call
+view : (c : After-turn) → let n = c.in_ok-next.next in view_of n.group n.len n.phase c.turn.new.self.cells ≡ turn_state (state_of c.args.self.now)
+view c =
+    turn_view c.args.self.now _ _ _ c.in_ok-next.ensures.value c.turn.new.self.cells (λ k l. let made = c.turn.ensures k blank l in search rules)
 
 pub invariant_of-self : goal.invariant_of-self
 invariant_of-self c =
     let s = c.args.self.now in
-    let view = turn_view s.group s.len s.few s.phase s.cells c.turn_cells.new.cells s.echoes c.turn_cells.ensures in
-    record {
-      some = s.some;
-      few = s.few;
-      begun = omega arith;
-      ends = omega arith;
-      consistent = ∥∥₁_map s.consistent (λ h. subst Consistent (sym view) (turn_consistent (state_of s) h));
-    }
+    record { consistent = ∥∥₁_map s.consistent (λ h. subst Consistent (sym (view c)) (turn_consistent (state_of s) h)) }
 
 pub returns : goal.returns
 returns c =
-    let s = c.args.self.now in
-    let view = turn_view s.group s.len s.few s.phase s.cells c.turn_cells.new.cells s.echoes c.turn_cells.ensures in
-    let goes : turn_fault (echo_model s) ≡ None = cond-false (eqb s.phase (end_phase s.group)) _ _ (ne_eqb _ _ (λ e. omega (arith, c.if-self-t.false, c.t.ensures))) in
-    record { refusal = sym goes; does = (goes, view) }
+    let goes = c.in_ok-next.ensures.refusal in
+    record { refusal = goes; does = (sym goes, view (goal.at.returns c).After-turn) }

@@ -1,7 +1,0 @@
-use Rattle.std.proofs.Common.{sym, refl, subst}
-use lib.ListN.{get_or-replicate}
-use Rattle.echo.specs.Cells.{Blank, blank}
-use Rattle.echo.proofs.cells.blank_cells.Goals as goal
-
-pub returns : goal.returns
-returns c = (λ k l. subst Blank (sym (get_or-replicate 384 k c.blank-cell.result blank l)) c.blank-cell.ensures, refl)

@@ -1,9 +1,0 @@
-use Rattle.std.proofs.Common.{◌≡◌, ℕ, ◌+◌, ◌/◌, ◌<◌, ◌≤◌, length, get_or}
-use Rattle.echo.specs.Cells.{CellTurned, blank, echo_row}
-use Rattle.echo.proofs.cells.turn_cells.Given as goal
-
-abbrev pub invariant-loop-k : goal.invariant-loop-k
-invariant-loop-k l =
-    ((j : ℕ) → j < l.k → CellTurned l.group l.phase (j / 64 + 1) (echo_row l.echoes j) (get_or l.initial.cells j blank) (get_or l.cells j blank))
-    × ((j : ℕ) → l.k ≤ j → get_or l.cells j blank ≡ get_or l.initial.cells j blank)
-    × (length l.cells ≡ 384)
