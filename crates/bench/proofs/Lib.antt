@@ -6,4 +6,3 @@ pub mod Searching
 pub mod Refusing
 pub mod Turning
 pub mod Single
-pub mod Unions

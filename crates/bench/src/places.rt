@@ -4,11 +4,12 @@ ghost use Rattle.agreement.specs.Extraction.{first_sets, verdict_of};
 ghost use Rattle.bench.specs.Tables.{holds, in_set, Placed};
 
 use agreement::Verdict;
+use std::array;
 
 // The places that one controller has extracted.
 #[derive(Clone, Copy)]
 pub struct PlaceSet {
-    places: [bool; 4],
+    pub(crate) places: [bool; 4],
 }
 
 impl PlaceSet {
@@ -31,12 +32,12 @@ impl PlaceSet {
         self.places[v as usize] = true;
     }
 
-    // Adds what `other` has. By index, since the check does not know what is written through `iter_mut().zip(..)`.
-    fn add(&mut self, other: &PlaceSet)
-        ensures { (v : ℕ) → holds self.new v ≡ (holds self.old v || holds other.now v) }
+    // The places of both.
+    fn union(&self, other: &PlaceSet) -> PlaceSet
+        ensures { (v : ℕ) → holds result v ≡ (holds self.now v || holds other.now v) }
     {
-        for (v, held) in self.places.iter_mut().enumerate() {
-            *held |= other.places[v];
+        PlaceSet {
+            places: array::from_fn(|v| self.places[v] || other.places[v]),
         }
     }
 
@@ -55,7 +56,7 @@ impl PlaceSet {
 // The places of each of sixteen controllers.
 #[derive(Clone, Copy)]
 pub struct Extracted {
-    rows: [PlaceSet; 16],
+    pub(crate) rows: [PlaceSet; 16],
 }
 
 impl Extracted {
@@ -97,9 +98,7 @@ impl Extracted {
     pub(crate) fn add(&mut self, other: &Extracted)
         ensures { (q v : ℕ) → in_set self.new q v ≡ (in_set self.old q v || in_set other.now q v) }
     {
-        for (q, row) in self.rows.iter_mut().enumerate() {
-            row.add(&other.rows[q]);
-        }
+        self.rows = array::from_fn(|q| self.rows[q].union(&other.rows[q]));
     }
 
     // The one place in q's set, or sender faulty if there is none or several.

@@ -9,7 +9,7 @@ mod stage;
 mod table;
 mod timing;
 
-pub use checks::relay_holds;
+pub use checks::{check_ends, check_offer, check_range, check_read, relay_holds};
 pub use faults::{CarriageFault, GroupFault};
 pub use frames::{Frame, Triple};
 pub use groups::{Group, Marks};

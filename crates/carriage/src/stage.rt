@@ -4,8 +4,8 @@ ghost use Rattle.lists.specs.Lists.{length_fault};
 ghost use Rattle.std.specs.Prelude.{◌≡◌, ◌+◌, ◌≤◌, IfOk, None};
 ghost use Rattle.std.specs.Result.{result_err};
 
+use crate::checks::{check_ends, check_offer, check_range, check_read};
 use crate::frames::{Frame, Triple};
-use crate::timing::Timing;
 use faults::{CarriageFault, ListFault};
 use groups::Group;
 use lists::check_length;
@@ -76,52 +76,27 @@ impl Stage {
         })
     }
 
-    // Refuses a triple that the group does not know.
     pub fn check_range(&self, x: Triple) -> Result<(), CarriageFault>
         ensures { result_err result ≡ range_cause self.now.group self.now.len x }
     {
-        if !x.in_range(&self.group, self.len) {
-            return Err(CarriageFault::Range);
-        }
-        Ok(())
+        check_range(&self.group, self.len, x)
     }
 
-    // Refuses an offer of a triple out of range, then one by a marked controller or in a wrong phase.
     pub fn check_offer(&self, x: Triple) -> Result<(), CarriageFault>
         ensures { result_err result ≡ offer_cause self.now.group self.now.len self.now.phase x }
     {
-        self.check_range(x)?;
-        let now = Timing {
-            phase: self.phase,
-            round: x.round,
-        };
-        if !self.group.is_correct(x.origin) || !now.is_first() {
-            return Err(CarriageFault::Offer);
-        }
-        Ok(())
+        check_offer(&self.group, self.len, self.phase, x)
     }
 
-    // Refuses a frame that is not from a marked controller, then one that is not to a correct one.
     pub fn check_ends(&self, f: Frame) -> Result<(), CarriageFault>
         ensures { result_err result ≡ frame_cause self.now.group f None }
     {
-        if !self.group.is_marked(f.from) {
-            return Err(CarriageFault::From);
-        }
-        if !self.group.is_correct(f.to) {
-            return Err(CarriageFault::NotCorrect);
-        }
-        Ok(())
+        check_ends(&self.group, f)
     }
 
-    // What a correct controller knows of a triple in range; refuses any other controller, then any other triple.
     pub fn check_read(&self, q: u16, x: Triple, known: bool) -> Result<bool, CarriageFault>
         ensures { result ≡ read_answer self.now.group self.now.len q x known }
     {
-        if !self.group.is_correct(q) {
-            return Err(CarriageFault::NotCorrect);
-        }
-        self.check_range(x)?;
-        Ok(known)
+        check_read(&self.group, self.len, q, x, known)
     }
 }

@@ -57,7 +57,7 @@ fn letter(field: &[u8]) -> Option<char>
 }
 
 // What a field is read as, and what stands behind the comma after it.
-pub fn field<T, F: FnOnce(&[u8]) -> Option<T>>(s: &[u8], read: F) -> Option<(T, &[u8])>
+fn field<T, F: FnOnce(&[u8]) -> Option<T>>(s: &[u8], read: F) -> Option<(T, &[u8])>
     requires { F.IsAlwaysCallable read }
     ensures { (f : List ℕ → Option T) → ((front : List ℕ) (r : Option T) → FnOnceReturnsAt F.FnOnce read front r → r ≡ f front) → MatchOption result (field_by f s.now ≡ None) (λ p. field_by f s.now ≡ Some (p.0, p.1.now)) }
 {
