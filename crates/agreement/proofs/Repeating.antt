@@ -47,7 +47,7 @@ module _ {C S : Type 0} (account : Account C) (state : C → S) (settled : Settl
       record {
         carriage = alike.carriage;
         running = refl;
-        sender = refl;
+        sender = alike.sender;
         extracted = alike.extracted;
         tally = by_parts (λ m r _ e t n. λ q b. cond (is_correct m q && charges rules (verdict_of m.len (e q)) b) (raised (t q b)) (t q b));
         closed = ap (λ n. n + 1) alike.closed;

@@ -75,7 +75,7 @@ module _ {C : Type 0} (account : Account C) where
 
   abbrev pub after_close : {K : Type 0} → Rules K → View C → View C
   after_close rules v =
-      record { carriage = v.carriage; running = false; sender = 0; extracted = v.extracted; tally = tallies_after rules v; closed = v.closed + 1 }
+      record { carriage = v.carriage; running = false; sender = v.sender; extracted = v.extracted; tally = tallies_after rules v; closed = v.closed + 1 }
 
 -- the calls that change a bench, with all their arguments; begin and close are handed the list as well
 pub data Call (K : Type 0) : Type 0 where

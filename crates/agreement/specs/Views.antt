@@ -7,7 +7,7 @@ use Rattle.agreement.specs.declared.moments.Moment.TheVariants.{Idle, Running, E
 use Rattle.agreement.specs.declared.moments.Act.{Act}
 use Rattle.agreement.specs.declared.moments.Act.TheVariants.{Begin, Inject, Turn, Verdict, Close}
 
--- the carriage itself, the running shot and its sender (after a close none, and 0), who extracted which places, what each controller's register
+-- the carriage itself, the running shot and its sender, who extracted which places, what each controller's register
 -- holds for each block, and how many shots are closed
 pub record View (C : Type 0) : Type 0 where
   pub carriage : C

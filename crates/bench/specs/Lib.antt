@@ -1,3 +1,4 @@
 pub mod Tables
 pub mod Inner
 pub mod Views
+pub mod Shots

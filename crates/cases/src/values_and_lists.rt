@@ -43,19 +43,16 @@ fn list_answer(values: &[Notice]) -> u16 {
 
 #[test]
 fn lists_hold_one_to_four_values(rt: HostRuntime) -> Result<(), Fail> {
-    let all = [
-        Notice::new(Outcome::Failed, 5, 0)?,
-        Notice::new(Outcome::Failed, 9, 0)?,
-        Notice::new(Outcome::Passed, 5, 0)?,
-        Notice::new(Outcome::Passed, 9, 0)?,
-        Notice::new(Outcome::Failed, 9, 7)?,
-    ];
-    let repeated = [all[0], all[1], all[4]];
-    assert_eq!(rt; list_answer(&all[..4]), 0);
+    let a = Notice::new(Outcome::Failed, 5, 0)?;
+    let b = Notice::new(Outcome::Failed, 9, 0)?;
+    let c = Notice::new(Outcome::Passed, 5, 0)?;
+    let d = Notice::new(Outcome::Passed, 9, 0)?;
+    let again = Notice::new(Outcome::Failed, 9, 7)?;
+    assert_eq!(rt; list_answer(&[a, b, c, d]), 0);
     assert_eq!(rt; list_answer(&[]), 7);
-    assert_eq!(rt; list_answer(&all), 7);
-    assert_eq!(rt; list_answer(&repeated), 8);
-    assert_eq!(rt; place(&repeated, &all[4]), Some(1));
-    assert_eq!(rt; place(&[all[0], all[2]], &all[4]), None);
+    assert_eq!(rt; list_answer(&[a, b, c, d, again]), 7);
+    assert_eq!(rt; list_answer(&[a, b, again]), 8);
+    assert_eq!(rt; place(&[a, b, again], &again), Some(1));
+    assert_eq!(rt; place(&[a, c], &again), None);
     Ok(())
 }

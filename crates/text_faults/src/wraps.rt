@@ -1,11 +1,11 @@
 // Faults of a line and of the layers below as causes of a text's.
 ghost use Rattle.std.specs.Prelude.{◌≡◌};
 ghost use Rattle.text_faults.specs.Causes.{cause_of_line};
-ghost use Rattle.text_faults.specs.declared.causes.TextCause.TheVariants.{Group, List};
+ghost use Rattle.text_faults.specs.declared.causes.TextCause.TheVariants.{Value, Group, List};
 
 use crate::causes::TextCause;
 use crate::lines::LineFault;
-use faults::{GroupFault, ListFault};
+use faults::{GroupFault, ListFault, ValueFault};
 
 impl From<LineFault> for TextCause {
     ghost from_gives = { λ e r. r ≡ cause_of_line e };
@@ -15,6 +15,14 @@ impl From<LineFault> for TextCause {
             LineFault::Form => TextCause::Form,
             LineFault::Value(e) => TextCause::Value(e),
         }
+    }
+}
+
+impl From<ValueFault> for TextCause {
+    ghost from_gives = { λ e r. r ≡ Value e };
+
+    fn from(e: ValueFault) -> TextCause {
+        TextCause::Value(e)
     }
 }
 

@@ -45,11 +45,12 @@ impl TryFrom<char> for Outcome {
     }
 }
 
-// The letter is kept as the byte that a campaign text has for it, and read as a char, as the letters of frames are.
+// The letter is kept as the byte that a campaign text has for it, and read as a char, as the letters of frames are. The block
+// is kept as its number: a struct that holds a `Block` is not copied when it is passed on and used again.
 #[derive(Clone, Copy, Debug, PartialEq, Eq)]
 pub struct Notice {
     letter: u8,
-    block: Block,
+    block: u8,
     tick: u16,
     ghost lettered: { is_letter letter ≡ true },
     ghost blocks: { block < 64 },
@@ -62,7 +63,7 @@ impl Notice {
     {
         Ok(Notice {
             letter: outcome.into(),
-            block: Block::new(block)?,
+            block: Block::new(block)?.number() as u8,
             tick,
         })
     }
@@ -76,7 +77,7 @@ impl Notice {
     pub fn block(&self) -> u16
         ensures { result ≡ self.now.block }
     {
-        self.block.number()
+        self.block as u16
     }
 
     pub fn tick(&self) -> u16
@@ -110,7 +111,7 @@ impl Kind for Notice {
 
     fn charged_block(&self) -> Option<Block> {
         match self.letter() {
-            'F' => Some(self.block),
+            'F' => Block::new(self.block()).ok(),
             'P' => None,
             _ => unreachable(),
         }

@@ -8,9 +8,10 @@ use crate::blocks::Block;
 use crate::kinds::Kind;
 use faults::ValueFault;
 
+// The block is kept as its number, as that of a notice is.
 #[derive(Clone, Copy, Debug, PartialEq, Eq)]
 pub struct PulseReport {
-    block: Block,
+    block: u8,
     pulses: u8,
     ghost blocks: { block < 64 },
     ghost some: { 1 ≤ pulses },
@@ -27,7 +28,7 @@ impl PulseReport {
             return Err(ValueFault::Pulses);
         }
         Ok(PulseReport {
-            block,
+            block: block.number() as u8,
             pulses: pulses as u8,
         })
     }
@@ -35,7 +36,7 @@ impl PulseReport {
     pub fn block(&self) -> u16
         ensures { result ≡ self.now.block }
     {
-        self.block.number()
+        self.block as u16
     }
 
     pub fn pulses(&self) -> u16
@@ -68,6 +69,10 @@ impl Kind for PulseReport {
     }
 
     fn charged_block(&self) -> Option<Block> {
-        (self.pulses == 8).then_some(self.block)
+        if self.pulses == 8 {
+            Block::new(self.block()).ok()
+        } else {
+            None
+        }
     }
 }

@@ -14,7 +14,7 @@ use crate::charging::charge_all;
 use crate::offers::{offer_next, start_shot};
 use crate::places::Extracted;
 use crate::rounds::Round;
-use crate::shots::Progress;
+use crate::shots::{Progress, Shot};
 use agreement::{Act, BenchFault};
 use carriage::{Carriage, Frame};
 use values::Kind;
@@ -42,7 +42,7 @@ impl<C: Carriage> Bench<C> {
         start_shot(&mut self.carriage, sender, place);
         self.extracted = Extracted::first(sender, place);
         self.progress = Progress {
-            sender: Some(sender),
+            shot: Shot::Running(sender),
             closed: self.progress.closed,
         };
     }
@@ -65,10 +65,9 @@ impl<C: Carriage> Bench<C> {
         self.check_moment(Act::Turn(phase))?;
         self.carriage.turn().unwrap();
         if phase % 2 == 0 {
-            let sender = self.progress.sender.unwrap();
             let round = Round {
                 carriage: &self.carriage,
-                sender,
+                sender: self.progress.shot.sender(),
                 before: &self.extracted,
                 number: phase / 2,
             };
@@ -89,7 +88,7 @@ impl<C: Carriage> Bench<C> {
         let group = self.carriage.group();
         charge_all(&mut self.registers, &group, &self.extracted, list);
         self.progress = Progress {
-            sender: None,
+            shot: Shot::Closed(self.progress.shot.sender()),
             closed: self.progress.closed + 1,
         };
         Ok(())

@@ -56,7 +56,7 @@ impl<C: Carriage> Bench<C> {
     pub fn moment(&self) -> Moment
         ensures { result ≡ moment_of C.Carriage (view_of self.now) }
     {
-        if self.progress.sender.is_none() {
+        if !self.progress.shot.is_running() {
             return Moment::Idle;
         }
         let phase = self.carriage.phase();

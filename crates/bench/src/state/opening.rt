@@ -11,7 +11,7 @@ ghost use Rattle.std.specs.Result.{result_err};
 use super::Bench;
 use super::checks::check_length;
 use crate::places::Extracted;
-use crate::shots::Progress;
+use crate::shots::{Progress, Shot};
 use crate::tallies::Registers;
 use agreement::BenchFault;
 use carriage::Carriage;
@@ -58,7 +58,7 @@ impl<C: Carriage> Bench<C> {
         Ok(Bench {
             carriage,
             progress: Progress {
-                sender: None,
+                shot: Shot::Closed(0),
                 closed: 0,
             },
             extracted: Extracted::empty(),

@@ -5,6 +5,7 @@ ghost use Rattle.bench.specs.Views.{view_of, sender_of};
 ghost use Rattle.std.specs.Prelude.{◌≡◌, IfOk};
 
 use super::Bench;
+use crate::shots::Shot;
 use agreement::{Act, BenchFault, Verdict};
 use carriage::Carriage;
 use groups::Group;
@@ -34,7 +35,10 @@ impl<C: Carriage> Bench<C> {
     pub fn sender(&self) -> Option<u16>
         ensures { result ≡ sender_of (view_of self.now) }
     {
-        self.progress.sender
+        match self.progress.shot {
+            Shot::Running(sender) => Some(sender),
+            Shot::Closed(_) => None,
+        }
     }
 
     // How many shots are closed.
