@@ -17,7 +17,10 @@ fn block_of<K: Kind>(list: &[K], verdict: Verdict) -> Option<Block>
     ensures { result ≡ block_of (rules_of K.Kind.same K.Kind.charge list.now) verdict }
 {
     match verdict {
-        Verdict::Place(p) => list.get(p as usize).and_then(|value| value.charged_block()),
+        Verdict::Place(p) => list
+            .get(p as usize)
+            .and_then(|value| value.charged_block())
+            .and_then(|block| Block::new(block).ok()),
         Verdict::SenderFaulty => None,
     }
 }

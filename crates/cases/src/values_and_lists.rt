@@ -2,7 +2,7 @@
 use crate::shared::answer;
 use lists::{check_list, place};
 use std::test::Fail;
-use values::{Block, Kind, Notice, Outcome, PulseReport};
+use values::{Kind, Notice, Outcome, PulseReport};
 
 #[test]
 fn notices_are_the_same_whatever_their_tick(rt: HostRuntime) -> Result<(), Fail> {
@@ -10,8 +10,8 @@ fn notices_are_the_same_whatever_their_tick(rt: HostRuntime) -> Result<(), Fail>
     let late = Notice::new(Outcome::Failed, 5, 65535)?;
     let passed = Notice::new(Outcome::Passed, 5, 0)?;
     assert!(rt; early.is_same(&late) && !early.is_same(&passed));
-    assert_eq!(rt; late.charged_block().map(Block::number), Some(5));
-    assert_eq!(rt; passed.charged_block().map(Block::number), None);
+    assert_eq!(rt; late.charged_block(), Some(5));
+    assert_eq!(rt; passed.charged_block(), None);
     assert!(rt; passed.letter() == 'P' && late.tick() == 65535);
     assert!(rt;
         Notice::new(Outcome::Failed, 64, 0).is_err()
@@ -22,14 +22,8 @@ fn notices_are_the_same_whatever_their_tick(rt: HostRuntime) -> Result<(), Fail>
 
 #[test]
 fn eight_pulses_charge(rt: HostRuntime) -> Result<(), Fail> {
-    assert_eq!(rt;
-        PulseReport::new(63, 8)?.charged_block().map(Block::number),
-        Some(63)
-    );
-    assert_eq!(rt;
-        PulseReport::new(63, 7)?.charged_block().map(Block::number),
-        None
-    );
+    assert_eq!(rt; PulseReport::new(63, 8)?.charged_block(), Some(63));
+    assert_eq!(rt; PulseReport::new(63, 7)?.charged_block(), None);
     assert_eq!(rt; answer(PulseReport::new(64, 8)), 3);
     assert_eq!(rt; answer(PulseReport::new(0, 0)), 3);
     assert_eq!(rt; answer(PulseReport::new(0, 9)), 3);

@@ -1,8 +1,6 @@
 // A kind of value says which values are the same and which block a value charges, if any.
 ghost use Rattle.std.specs.Prelude.{◌≡◌, ℕ, ◌<◌, Bool, true, Some, Option};
 
-use crate::blocks::Block;
-
 pub trait Kind {
     // Two values count as one.
     ghost same: { Self → Self → Bool };
@@ -13,7 +11,7 @@ pub trait Kind {
     fn is_same(&self, other: &Self) -> bool
         ensures { result ≡ same self.now other.now };
 
-    fn charged_block(&self) -> Option<Block>
+    fn charged_block(&self) -> Option<u16>
         ensures { result ≡ charge self.now };
 
     ghost reflexive: { (x : Self) → same x x ≡ true };

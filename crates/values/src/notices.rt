@@ -109,9 +109,9 @@ impl Kind for Notice {
         self.letter == other.letter && self.block == other.block
     }
 
-    fn charged_block(&self) -> Option<Block> {
+    fn charged_block(&self) -> Option<u16> {
         match self.letter() {
-            'F' => Block::new(self.block()).ok(),
+            'F' => Some(self.block()),
             'P' => None,
             _ => unreachable(),
         }

@@ -68,11 +68,7 @@ impl Kind for PulseReport {
         self == other
     }
 
-    fn charged_block(&self) -> Option<Block> {
-        if self.pulses == 8 {
-            Block::new(self.block()).ok()
-        } else {
-            None
-        }
+    fn charged_block(&self) -> Option<u16> {
+        (self.pulses == 8).then_some(self.block())
     }
 }
